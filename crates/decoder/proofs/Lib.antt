@@ -1,0 +1,12 @@
+-- Laws has what the layers above may cite. Determined has that each promise fixes its answer. The others prove these
+-- and the crate's functions, and only the crate itself can name them.
+pub mod Laws
+pub mod Determined
+mod Below
+mod Fit
+mod Lines
+mod RoundTrip
+mod Rows
+mod TextLength
+mod Undefined
+mod Writing
