@@ -1,13 +1,15 @@
--- A test that antt computes at each number below n holds of each; and a number that is none of a list's.
--- Assumes nothing.
+-- A test that antt computes at each number below n holds of each; a number that is none of a list's; and that no
+-- value is a refusal. Assumes nothing.
 use mathlib.Core.Path.{_≡_, refl, sym, subst⁻¹}
 use mathlib.Core.Bool.{Bool, true, false, _&&_, and-false}
 use mathlib.Core.List.{List, [], _∷_}
 use mathlib.Core.Logic.{⊎-elim}
 use Prim.Native.Nat.{ℕ, zero, suc, _<_}
 use native.Mathlib.Nat.{not-suc-le-zero, eq-or-lt-of-le, le-of-suc-le-suc}
+use native.Mathlib.Omega.{arith}
 use borrow.Author.Tests.{ne-eqb}
 use Rattle.decoder.specs.Table.{isOneOf}
+use Rattle.decoder.specs.Table.Answer.{gives, refuses}
 
 abbrev pub all : ℕ → (ℕ → Bool) → Bool
 all zero f = true
@@ -47,3 +49,7 @@ Refuted t (k ∷ ks) = Refuted t ks × (t ≡ k → ⊥)
 pub not-one : (t : ℕ) (ks : List ℕ) → Refuted t ks → isOneOf t ks ≡ false
 not-one t [] h = refl
 not-one t (k ∷ ks) h = rw (ne-eqb t k (h .1)) (not-one t ks (h .0))
+
+-- A value and a refusal are never the same answer.
+pub no-value : {A : Type 0} {a : A} {n : ℕ} → gives a ≡ refuses n → ⊥
+no-value e = let z : _≡_ {A = ℕ} 0 1 = cc in omega arith

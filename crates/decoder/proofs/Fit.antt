@@ -1,5 +1,5 @@
 -- Operands that fit their fields. Assumes nothing.
-use mathlib.Core.Path.{_≡_, refl}
+use mathlib.Core.Path.{_≡_, refl, sym}
 use mathlib.Core.Bool.{Bool, true, false, cond}
 use Prim.Native.Nat.{ℕ, _<_}
 use native.Mathlib.Omega.{arith}
@@ -12,7 +12,7 @@ use Rattle.decoder.specs.declared.instruction.Operands.the-variants.{Non
 use Rattle.decoder.specs.Table.Answer.{gives, refuses}
 use Rattle.decoder.specs.Printed.{Fit, fitOf, placed, bitOf}
 use Rattle.decoder.specs.Inner.{fieldsOf}
-use Rattle.decoder.proofs.Below.{and-left, and-right}
+use Rattle.decoder.proofs.Below.{and-left, and-right, no-value}
 
 -- The test and the statement say the same.
 pub fit-true : (o : Operands) → fitOf o ≡ true → Fit o
@@ -56,12 +56,12 @@ placing-gives o b e = go (fitOf o) refl e
   where
     go : (t : Bool) → fitOf o ≡ t → gives b ≡ cond t (gives (placed o)) (refuses 10) → Placing o b
     go true f e = let are : b ≡ placed o = cc in record { fit = f; are = are; small = omega (arith, placed-small o (fit-true o f)) }
-    go false f e = let no : _≡_ {A = ℕ} 0 1 = cc in absurd (omega arith)
+    go false f e = absurd (no-value e)
 
 pub placing-refuses : (o : Operands) (n : ℕ) → refuses n ≡ fieldsOf o → fitOf o ≡ false
 unfolding fieldsOf
 placing-refuses o n e = go (fitOf o) refl e
   where
     go : (t : Bool) → fitOf o ≡ t → refuses n ≡ cond t (gives (placed o)) (refuses 10) → fitOf o ≡ false
-    go true f e = cc
+    go true f e = absurd (no-value (sym e))
     go false f e = f

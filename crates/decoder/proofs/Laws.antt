@@ -1,6 +1,6 @@
 -- What the layers above may cite of the decoder, and nothing else. Assumes nothing.
 use mathlib.Core.Path.{_≡_, refl, sym, ap, _∙_}
-use mathlib.Core.Bool.{Bool, true, false, cond}
+use mathlib.Core.Bool.{Bool, true, false, cond, true≢false}
 use mathlib.Core.List.{List, _++_}
 use Prim.Native.Nat.{ℕ, _+_, _-_, _≤_, _<_}
 use native.Mathlib.Omega.{arith}
@@ -15,6 +15,7 @@ use Rattle.decoder.specs.Printed.{printedOf, fitOf, InRange, wordOf, enc
 use Rattle.decoder.specs.Text.{textOf, Left, written, refused}
 use Rattle.decoder.specs.Listing.{listOf, listingOf}
 use Rattle.decoder.specs.Answers.{Lists}
+use Rattle.decoder.proofs.Below.{no-value}
 use Rattle.decoder.proofs.Fit.{true-fit, fit-true}
 use Rattle.decoder.proofs.Undefined.{isRefused, refused-6, undefined-exactly, over}
 use Rattle.decoder.proofs.RoundTrip as trip
@@ -61,23 +62,17 @@ undefined-word w e = refused-6 w (undefined-exactly w ∙ e)
 pub defined-word : (w : ℕ) → undefinedOf w ≡ false → (i : Instruction) × (decodeOf w ≡ gives i)
 defined-word w e = go (decodeOf w) refl (undefined-exactly w ∙ e)
   where
-    apart : true ≡ false → ⊥
-    apart p = let z : _≡_ {A = ℕ} 0 1 = cc in omega arith
-
     go : (x : Answer Instruction) → decodeOf w ≡ x → isRefused (decodeOf w) ≡ false → (i : Instruction) × (decodeOf w ≡ gives i)
     go (gives i) d f = (i, d)
-    go (refuses n) d f = absurd (apart (sym (ap isRefused d) ∙ f))
+    go (refuses n) d f = absurd (true≢false (sym (ap isRefused d) ∙ f))
 
 -- Every instruction's word has 14 bits.
 pub word-below : (i : Instruction) → InRange i → wordOf i < 0x4000
 word-below i h = go (ltb (wordOf i) 0x4000) refl
   where
-    clash : gives i ≡ refuses 6 → ⊥
-    clash p = let z : _≡_ {A = ℕ} 0 1 = cc in omega arith
-
     go : (t : Bool) → ltb (wordOf i) 0x4000 ≡ t → wordOf i < 0x4000
     go true e = ltb-true (wordOf i) 0x4000 e
-    go false e = absurd (clash (sym (decode-encode i h) ∙ undefined-word (wordOf i) (over (wordOf i) (ltb-false (wordOf i) 0x4000 e))))
+    go false e = absurd (no-value (sym (decode-encode i h) ∙ undefined-word (wordOf i) (over (wordOf i) (ltb-false (wordOf i) 0x4000 e))))
 
 -- A text has at most 14 bytes, which is what a buffer is asked to have.
 pub text-length : (i : Instruction) → length (textOf i) ≤ 14
@@ -91,15 +86,10 @@ prefix n text before after e =
     let whole : after ≡ text ++ drop (length text) before = ap (λ (l : Left). l .bytes) e in
     rw whole (omega (arith, length-append text (drop (length text) before)))
 
-none-given : (n m : ℕ) (before after : List ℕ) → record { answer = gives n; bytes = after } ≡ refused m before → ⊥
-none-given n m before after e =
-    let clash : gives n ≡ refuses m = ap (λ (l : Left). l .answer) e in
-    let z : _≡_ {A = ℕ} 0 1 = cc in omega arith
-
 pub listing-within : (input before : List ℕ) (n : ℕ) (after : List ℕ) → Lists input before (Text n) after → n ≤ length after
 unfolding listOf
 listing-within input before n after e = go (ltb (length before) 204800) e
   where
     go : (t : Bool) → record { answer = gives n; bytes = after } ≡ cond t (refused 70 before) (written (listingOf input) before) → n ≤ length after
-    go true e = absurd (none-given n 70 before after e)
+    go true e = absurd (no-value (ap (λ (l : Left). l .answer) e))
     go false e = prefix n (listingOf input) before after e

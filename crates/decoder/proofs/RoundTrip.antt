@@ -13,7 +13,7 @@ use Rattle.decoder.specs.declared.instruction.Instruction.the-variants.{
 use Rattle.decoder.specs.Table.{Row, rows, rowsOf, firstOf, firstX, decodeOf, xOf, fixed, bits, destOf, fieldF, fieldD, fieldB, fieldK8, fieldK11}
 use Rattle.decoder.specs.Table.Answer.{gives}
 use Rattle.decoder.specs.Printed.{InRange, bitOf, wordOf}
-use Rattle.decoder.proofs.Below.{and-left, and-right}
+use Rattle.decoder.proofs.Below.{and-left, and-right, no-value}
 use Rattle.decoder.proofs.Fit.{bit-below}
 use Rattle.decoder.proofs.Rows.{decode-at, fixedAt}
 
@@ -100,7 +100,7 @@ data All (P : Row → Type 0) : List Row → Type 0 where
   more : {r : Row} {rs : List Row} → P r → All P rs → All P (r ∷ rs)
 
 first-sound : (w : ℕ) (i : Instruction) (rs : List Row) → All (Sound w) rs → firstOf rs ≡ gives i → (wordOf i + firstX rs ≡ w) × InRange i
-first-sound w i [] none e = let absurd-answer : _≡_ {A = ℕ} 0 1 = cc in absurd (omega arith)
+first-sound w i [] none e = absurd (no-value (sym e))
 first-sound w i (r ∷ rs) (more here later) e = go (r .fits) refl (first-sound w i rs later) e
   where
     go : (t : Bool) → r .fits ≡ t → (firstOf rs ≡ gives i → (wordOf i + firstX rs ≡ w) × InRange i)

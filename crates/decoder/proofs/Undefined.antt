@@ -107,12 +107,16 @@ undefined-exactly w = go (ltb w 0x0200) refl (ltb w 0x4000) refl
 refused : (w : ℕ) → undefinedOf w ≡ true → refuses 6 ≡ decodeOf w
 refused w e = sym (refused-6 w (undefined-exactly w ∙ e))
 
--- For the code's last arms: a word with no row among the lowest 0x0080, and one whose upper six bits have none.
-pub no-low-row : (w : ℕ) → w < 0x0080 → Refuted w (0x64 ∷ 0x63 ∷ 0x09 ∷ 0x08 ∷ 0x60 ∷ 0x40 ∷ 0x20 ∷ 0x00 ∷ []) → refuses 6 ≡ decodeOf w
+-- For the code's last arms, whose numbers stand here last one first: a word with no row among the lowest 0x0080, and
+-- one whose upper six bits have none.
+abbrev lowest : List ℕ
+lowest = 0x64 ∷ 0x63 ∷ 0x09 ∷ 0x08 ∷ 0x60 ∷ 0x40 ∷ 0x20 ∷ 0x00 ∷ []
+
+pub no-low-row : (w : ℕ) → w < 0x0080 → Refuted w lowest → refuses 6 ≡ decodeOf w
 unfolding undefinedOf
 no-low-row w low none =
-    let listed-or-not : ℕ → Bool = λ v. isOneOf v (0x64 ∷ 0x63 ∷ 0x09 ∷ 0x08 ∷ 0x60 ∷ 0x40 ∷ 0x20 ∷ 0x00 ∷ []) || undefinedOf v in
-    refused w (rw (not-one w _ none) at (below listed-or-not 0x0080 refl w low))
+    let listed-or-not : ℕ → Bool = λ v. isOneOf v lowest || undefinedOf v in
+    refused w (rw (not-one w lowest none) at (below listed-or-not 0x0080 refl w low))
 
 abbrev tops : List ℕ
 tops =

@@ -1,9 +1,8 @@
 -- The counts are computed, over all 16,384 words; that they count what they should follows from the decoder's laws.
 -- Assumes nothing.
 use mathlib.Core.Path.{_≡_, refl, _∙_}
-use mathlib.Core.Bool.{Bool, true, false, not}
+use mathlib.Core.Bool.{Bool, true, false, not, false≢true}
 use Prim.Native.Nat.{ℕ, zero, suc}
-use native.Mathlib.Omega.{arith}
 use lib.Dec.{ltb}
 use borrow.Author.Tests.{eqb-true, eq-eqb}
 use Rattle.decoder.specs.declared.instruction.Instruction.{Instruction}
@@ -46,12 +45,9 @@ word-written : (w : ℕ) → isWritten w ≡ true → (i : Instruction) × InRan
 unfolding isWritten
 word-written w e = go (decodeOf w) refl e
   where
-    apart : false ≡ true → ⊥
-    apart p = let z : _≡_ {A = ℕ} 0 1 = cc in omega arith
-
     go : (x : Answer Instruction) → decodeOf w ≡ x → writes x w ≡ true → (i : Instruction) × InRange i × (wordOf i ≡ w)
     go (gives i) d e = (i, operands-in-range w i d, eqb-true (wordOf i) w e)
-    go (refuses n) d e = absurd (apart e)
+    go (refuses n) d e = absurd (false≢true e)
 
 pub counts : Counts
 counts = record {
