@@ -1,5 +1,6 @@
 // Bad input, and what comes back: each call's number and what is left in the buffer it was lent. The
 // file stdout has what must be printed, written from document 01 by hand.
+use decoder::Decoded;
 use decoder::Dest;
 use decoder::Disassembled;
 use decoder::Encoded;
@@ -8,6 +9,7 @@ use decoder::Listed;
 use libc::STDOUT_FILENO;
 
 fn main() {
+    decodes();
     encodes();
     disassembles_nothing();
     disassembles_to_a_short_buffer();
@@ -15,15 +17,29 @@ fn main() {
     lists_to_a_short_buffer();
 }
 
+// 6 for TRIS, for the first and last words behind XORLW, and for what has more than 14 bits; 0, for a
+// word with an instruction, on either side of them.
+fn decodes() {
+    show(decoded_or_number(decoder::decode(0x0065)));
+    show(decoded_or_number(decoder::decode(0x3B00)));
+    show(decoded_or_number(decoder::decode(0x3BFF)));
+    show(decoded_or_number(decoder::decode(0x4000)));
+    show(decoded_or_number(decoder::decode(0xFFFF)));
+    show(decoded_or_number(decoder::decode(0x0064)));
+    show(decoded_or_number(decoder::decode(0x3AFF)));
+    show(decoded_or_number(decoder::decode(0x3C00)));
+    show(decoded_or_number(decoder::decode(0x3FFF)));
+}
+
 // 10 for f above 127, b above 7 and an eleven-bit k above 2,047; a word for the largest that fit.
 fn encodes() {
-    show(number_of(decoder::encode(Instruction::Addwf(128, Dest::W))));
-    show(number_of(decoder::encode(Instruction::Clrf(255))));
-    show(number_of(decoder::encode(Instruction::Btfss(127, 8))));
-    show(number_of(decoder::encode(Instruction::Btfss(128, 7))));
-    show(number_of(decoder::encode(Instruction::Call(2048))));
-    show(number_of(decoder::encode(Instruction::Btfss(127, 7))));
-    show(number_of(decoder::encode(Instruction::Call(2047))));
+    show(word_or_number(decoder::encode(Instruction::Addwf(128, Dest::W))));
+    show(word_or_number(decoder::encode(Instruction::Clrf(255))));
+    show(word_or_number(decoder::encode(Instruction::Btfss(127, 8))));
+    show(word_or_number(decoder::encode(Instruction::Btfss(128, 7))));
+    show(word_or_number(decoder::encode(Instruction::Call(2048))));
+    show(word_or_number(decoder::encode(Instruction::Btfss(127, 7))));
+    show(word_or_number(decoder::encode(Instruction::Call(2047))));
 }
 
 // An undefined word answers 6 also where the buffer is too short.
@@ -62,7 +78,14 @@ fn lists_to_a_short_buffer() {
     end_line();
 }
 
-fn number_of(answer: Encoded) -> u64 {
+fn decoded_or_number(answer: Decoded) -> u64 {
+    match answer {
+        Decoded::Is(_) => 0,
+        Decoded::Undefined => 6,
+    }
+}
+
+fn word_or_number(answer: Encoded) -> u64 {
     match answer {
         Encoded::Word(word) => word as u64,
         Encoded::TooLarge => 10,
