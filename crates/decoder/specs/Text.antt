@@ -39,6 +39,7 @@ operandText (FB f b) = ascii " 0x" ++ hex 2 f ++ ascii "," ++ hex 1 b
 operandText (K8 k) = ascii " 0x" ++ hex 2 k
 operandText (K11 k) = ascii " 0x" ++ hex 3 k
 
+-- The mnemonic, then the operands if any.
 unfoldable pub textOf : Instruction → List ℕ
 textOf i = ascii (printedOf i .mnemonic) ++ operandText (printedOf i .operands)
 
