@@ -2,7 +2,7 @@
 -- and the crate's functions, and only the crate itself can name them.
 pub mod Laws
 pub mod Determined
-mod Below
+pub mod Below
 mod Fit
 mod Lines
 mod RoundTrip
