@@ -1,0 +1,44 @@
+use mathlib.Core.Path.{_≡_, sym, _∙_}
+use denote.Ref.{now}
+use lib.ListN.{length}
+use borrow.Author.Tests.{leb-true}
+use borrow.Author.Needs.{needs}
+use Rattle.machine.proofs.Tested.{turned-down, passed, within, bytes-fit}
+use Rattle.machine.proofs.running.run.Statement.{statement}
+use Rattle.machine.proofs.running.run.Tie as tie
+
+returns : tie.Need-returns
+returns c =
+    let a = c .before .before .before .before .args in
+    sym (turned-down (now (a .words)) (now (a .file)) (a .state) (a .n) (c .before .turned-down .result) (c .before .turned-down .ensures) (c .if1 .taken))
+
+go-requires : tie.Need-go-requires
+go-requires c κs =
+    let a = c .before .before .before .before .before .before .before .before .before .args in
+    let t = c .before .before .before .before .before .before .turned-down in
+    let none : t .result ≡ 0 = c .before .before .before .before .before .if1 .left in
+    let p = passed (now (a .words)) (now (a .file)) (a .state) (a .n) (sym (t .ensures) ∙ none) in
+    (bytes-fit (length (now (a .words))) (length (now (a .file))) (p .sizes), within (a .state) (search needs) (p .state), leb-true _ _ (p .count))
+
+returns-2 : tie.Need-returns-2
+returns-2 c =
+    let a = c .before .before .before .before .before .before .before .before .before .before .before .before .before .before .before .before .args in
+    let t = c .before .before .before .before .before .before .before .before .before .before .before .before .before .turned-down in
+    let none : t .result ≡ 0 = c .before .before .before .before .before .before .before .before .before .before .before .before .if1 .left in
+    let p = passed (now (a .words)) (now (a .file)) (a .state) (a .n) (sym (t .ensures) ∙ none) in
+    rw (p .run) (c .before .before .before .before .before .before .go .ensures .0)
+
+pub run-spec : {M : Type 1} → statement M
+run-spec =
+    tie.close
+    (tie.spec
+    (λ c κs. search needs)
+    returns
+    (λ c. search needs)
+    (λ c. search needs)
+    (λ c. search needs)
+    go-requires
+    (λ c. search needs)
+    (λ c. search needs)
+    (λ c. search needs)
+    returns-2)
