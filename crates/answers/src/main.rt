@@ -1,5 +1,7 @@
 // Bad input, and what comes back: each call's number and what is left in the buffer it was lent. The
 // file stdout has what must be printed, written from document 01 by hand.
+mod runs;
+
 use decoder::Decoded;
 use decoder::Dest;
 use decoder::Disassembled;
@@ -15,6 +17,7 @@ fn main() {
     disassembles_to_a_short_buffer();
     disassembles();
     lists_to_a_short_buffer();
+    runs::answers();
 }
 
 // 6 for TRIS, for the first and last words behind XORLW, and for what has more than 14 bits; 0, for a
