@@ -47,14 +47,3 @@ clear-bit = agree (λ x b. bitAnd x (255 - 1 * 2 ^ b % 256)) (λ x b. withBit b 
 
 pub set-bit : (x b : ℕ) → x < 256 → b < 8 → bitOr x (1 * 2 ^ b % 256) ≡ withBit b 1 x
 set-bit = agree (λ x b. bitOr x (1 * 2 ^ b % 256)) (λ x b. withBit b 1 x) 256 8 refl
-
--- STATUS with another C, and INTCON with bit 7 set.
-pub lowest-bit : (x v : ℕ) → withBit 0 x v ≡ v / 2 * 2 + x
-lowest-bit x v = omega arith
-
-pub highest-bit : (v : ℕ) → v < 256 → withBit 7 1 v ≡ 128 + v % 128
-highest-bit v h = omega arith
-
--- STATUS with TO set and another PD.
-pub watch-bits : (v pd : ℕ) → v < 256 → pd < 2 → withBit 4 1 (withBit 3 pd v) ≡ v / 32 * 32 + 16 + pd * 8 + v % 8
-watch-bits = agree (λ v pd. withBit 4 1 (withBit 3 pd v)) (λ v pd. v / 32 * 32 + 16 + pd * 8 + v % 8) 256 2 refl

@@ -1,9 +1,9 @@
 // What the operations make of bytes: document 01, "One instruction". Sums and differences wrap at 256,
 // and their carries are found beside them.
 ghost use mathlib.Core.Path.{_≡_};
-ghost use Prim.Native.Nat.{_≤_, _%_};
-ghost use Rattle.alu.specs.Alu.{andOf, orOf, xorOf, bitOf, withBit, isZero, noBorrow, plusOne, lessOne};
-ghost use Rattle.alu.specs.Answers.{Adds, Subtracts, AreBits};
+ghost use Prim.Native.Nat.{_≤_, _-_, _%_};
+ghost use Rattle.alu.specs.Alu.{andOf, orOf, xorOf, bitOf, withBit, isZero, noBorrow, plusOne, lessOne, swapped};
+ghost use Rattle.alu.specs.Answers.{Adds, Subtracts, AreBits, TurnsLeft, TurnsRight};
 
 // A sum or a difference, with DC and C.
 pub struct Sum {
@@ -67,6 +67,44 @@ pub fn xor(x: u8, w: u8) -> u8
     ensures { λ r. ⌜ r ≡ xorOf x w ⌝ }
 {
     x ^ w
+}
+
+pub fn complement(x: u8) -> u8
+    ensures { λ r. ⌜ r ≡ 255 - x ⌝ }
+{
+    255 - x
+}
+
+// The nibbles exchanged.
+pub fn swap(x: u8) -> u8
+    ensures { λ r. ⌜ r ≡ swapped x ⌝ }
+{
+    x % 16 * 16 + x / 16
+}
+
+// A byte turned through C, and the C that leaves it.
+pub struct Turned {
+    pub value: u8,
+    pub carry: u8,
+}
+
+// C comes in as the lowest bit of STATUS.
+pub fn rotate_left(x: u8, status: u8) -> Turned
+    ensures { λ r. ⌜ TurnsLeft x status r × (r .carry ≤ 1) ⌝ }
+{
+    Turned {
+        value: x % 128 * 2 + status % 2,
+        carry: x / 128,
+    }
+}
+
+pub fn rotate_right(x: u8, status: u8) -> Turned
+    ensures { λ r. ⌜ TurnsRight x status r × (r .carry ≤ 1) ⌝ }
+{
+    Turned {
+        value: status % 2 * 128 + x / 2,
+        carry: x % 2,
+    }
 }
 
 // x with bit b cleared, and set. A byte has eight bits: b counts modulo 8, here and in `bit`.
