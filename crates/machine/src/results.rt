@@ -22,6 +22,7 @@ use crate::registers::wide;
 use crate::state::Core;
 use crate::step::Stepped;
 use alu::Sum;
+use alu::Turned;
 use alu::is_zero;
 use decoder::Dest;
 
@@ -35,12 +36,12 @@ pub(crate) fn put_z(c: Core, file: &mut [u8], d: Dest, o: Operand, v: u8) -> Ste
     r
 }
 
-pub(crate) fn put_c(c: Core, file: &mut [u8], d: Dest, o: Operand, v: u8, carry: u8) -> Stepped
-    requires { ⌜ (length (now file) ≡ 512) × Inside (o .place) × (carry ≤ 1) ⌝ }
-    ensures { λ r. ⌜ Does c (now (file .entry)) r (now (file .exit)) (λ s. toDest s (now (file .entry)) d (o .place) (carried v carry)) ⌝ }
+pub(crate) fn put_c(c: Core, file: &mut [u8], d: Dest, o: Operand, turn: Turned) -> Stepped
+    requires { ⌜ (length (now file) ≡ 512) × Inside (o .place) × (turn .carry ≤ 1) ⌝ }
+    ensures { λ r. ⌜ Does c (now (file .entry)) r (now (file .exit)) (λ s. toDest s (now (file .entry)) d (o .place) (carried (turn .value) (turn .carry))) ⌝ }
 {
-    let r = put(c, file, d, o, v);
-    flag_c(file, carry);
+    let r = put(c, file, d, o, turn.value);
+    flag_c(file, turn.carry);
     r
 }
 

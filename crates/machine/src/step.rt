@@ -29,10 +29,14 @@ use crate::state::Core;
 use alu::add;
 use alu::and;
 use alu::bit;
+use alu::complement;
 use alu::less_one;
 use alu::or;
 use alu::plus_one;
+use alu::rotate_left;
+use alu::rotate_right;
 use alu::subtract;
+use alu::swap;
 use alu::with_bit;
 use alu::without_bit;
 use alu::xor;
@@ -72,7 +76,7 @@ pub(crate) fn step(c: Core, stack: &mut [u16], file: &mut [u8], i: Instruction) 
         Instruction::Clrw => literal(c, file, 0),
         Instruction::Comf(f, d) => {
             let o = operand_at(file, f, c.counter);
-            put_z(c, file, d, o, 255 - o.byte)
+            put_z(c, file, d, o, complement(o.byte))
         }
         Instruction::Decf(f, d) => {
             let o = operand_at(file, f, c.counter);
@@ -105,13 +109,13 @@ pub(crate) fn step(c: Core, stack: &mut [u16], file: &mut [u8], i: Instruction) 
         Instruction::Nop => next(c, c.w),
         Instruction::Rlf(f, d) => {
             let o = operand_at(file, f, c.counter);
-            let carry = file[STATUS] % 2;
-            put_c(c, file, d, o, o.byte % 128 * 2 + carry, o.byte / 128)
+            let turn = rotate_left(o.byte, file[STATUS]);
+            put_c(c, file, d, o, turn)
         }
         Instruction::Rrf(f, d) => {
             let o = operand_at(file, f, c.counter);
-            let carry = file[STATUS] % 2;
-            put_c(c, file, d, o, carry * 128 + o.byte / 2, o.byte % 2)
+            let turn = rotate_right(o.byte, file[STATUS]);
+            put_c(c, file, d, o, turn)
         }
         Instruction::Subwf(f, d) => {
             let o = operand_at(file, f, c.counter);
@@ -119,7 +123,7 @@ pub(crate) fn step(c: Core, stack: &mut [u16], file: &mut [u8], i: Instruction) 
         }
         Instruction::Swapf(f, d) => {
             let o = operand_at(file, f, c.counter);
-            put(c, file, d, o, o.byte % 16 * 16 + o.byte / 16)
+            put(c, file, d, o, swap(o.byte))
         }
         Instruction::Xorwf(f, d) => {
             let o = operand_at(file, f, c.counter);

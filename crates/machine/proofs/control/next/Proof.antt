@@ -1,4 +1,3 @@
-use borrow.Author.Needs.{needs}
 use Rattle.machine.specs.Inner.{skipOf}
 use Rattle.machine.proofs.control.next.Statement.{statement}
 use Rattle.machine.proofs.control.next.Tie as tie
@@ -8,5 +7,5 @@ unfolding skipOf
 next-spec =
     tie.close
     (tie.spec
-    (λ c κs. search needs)
+    (λ c κs. tt)
     (λ c. rw (c .after .ensures)))

@@ -1,7 +1,6 @@
 use Prim.Native.Nat.{_-_}
 use native.Mathlib.Omega.{arith}
 use denote.Ref.{now}
-use borrow.Author.Needs.{needs}
 use Rattle.machine.specs.Forms.Return-kind.{loads}
 use Rattle.machine.specs.Inner.{stateOf}
 use Rattle.machine.proofs.Ways.{pops}
@@ -17,10 +16,10 @@ pub pop-spec : {M : Type 1} → statement M
 pop-spec =
     tie.close
     (tie.spec
-    (λ c κs. search needs)
+    (λ c κs. tt)
     (λ c. λ file. rw (c .refused .ensures, c .before .if1 .taken))
-    (λ c. search needs)
-    (λ c. search needs)
-    (λ c. search needs)
+    (λ c. omega arith)
+    (λ c. omega arith)
+    (λ c. omega arith)
     (λ c. omega (arith, c .shared-slice-known2 .given (c .before .before .before .args .c .depth - 1)))
     returns-2)

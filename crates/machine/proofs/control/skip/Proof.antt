@@ -1,4 +1,3 @@
-use borrow.Author.Needs.{needs}
 use Rattle.machine.specs.Inner.{skipOf}
 use Rattle.machine.proofs.control.skip.Statement.{statement}
 use Rattle.machine.proofs.control.skip.Tie as tie
@@ -8,6 +7,6 @@ unfolding skipOf
 skip-spec =
     tie.close
     (tie.spec
-    (λ c κs. search needs)
+    (λ c κs. tt)
     (λ c. rw (c .before .after .ensures, c .if1 .taken))
     (λ c. rw (c .before .after .ensures, c .if1 .left)))

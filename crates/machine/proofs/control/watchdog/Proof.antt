@@ -10,12 +10,12 @@ pub watchdog-spec : {M : Type 1} → statement M
 watchdog-spec =
     tie.close
     (tie.spec
-    (λ c. search needs)
+    (λ c. omega arith)
     (λ c. omega (arith, c .slice-known .given 3))
     (λ c. omega (arith, c .slice-known .given 3))
-    (λ c. search needs)
+    (λ c. omega arith)
     (λ c. omega (arith, c .slice-known .given 3))
     (λ c. omega (arith, c .slice-known .given 3))
-    (λ c. search needs)
+    (λ c. omega arith)
     (λ c. search needs)
     (λ c. rw (watch-bits (getD (now (c .before .args .file)) 3 0) (c .before .args .pd) (omega (arith, c .slice-known .given 3)) (omega arith))))

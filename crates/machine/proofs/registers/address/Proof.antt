@@ -1,6 +1,5 @@
 use native.Mathlib.Omega.{arith}
 use borrow.Author.Tests.{eq-eqb, ne-eqb}
-use borrow.Author.Needs.{needs}
 use Rattle.machine.specs.Registers.{addressOf}
 use Rattle.machine.proofs.registers.address.Statement.{statement}
 use Rattle.machine.proofs.registers.address.Tie as tie
@@ -16,13 +15,13 @@ unfolding addressOf
 address-spec =
     tie.close
     (tie.spec
-    (λ c. search needs)
-    (λ c κs. search needs)
-    (λ c. search needs)
-    (λ c. search needs)
-    (λ c κs. search needs)
-    (λ c. search needs)
-    (λ c. search needs)
-    (λ c. search needs)
+    (λ c. omega arith)
+    (λ c κs. tt)
+    (λ c. omega arith)
+    (λ c. omega arith)
+    (λ c κs. tt)
+    (λ c. omega arith)
+    (λ c. omega arith)
+    (λ c. omega arith)
     returns
     (λ c. (rw (ne-eqb _ _ (c .if1 .left), c .before .wide .ensures .0), omega arith)))

@@ -13,13 +13,13 @@ pub load-spec : {M : Type 1} → statement M
 load-spec =
     tie.close
     (tie.spec
-    (λ c. search needs)
-    (λ c. search needs)
-    (λ c. search needs)
-    (λ c. search needs)
-    (λ c. search needs)
-    (λ c. search needs)
-    (λ c. search needs)
+    (λ c. c .match .keys1)
+    (λ c. c .match .keys2)
+    (λ c. omega arith)
+    (λ c. omega arith)
+    (λ c. c .match .keys3)
+    (λ c. omega arith)
+    (λ c. c .match .keys4)
     shared-slice-read-result-2
     (λ c. search needs)
     (λ c. rw (c .enum-told2 .given .1) (omega arith))

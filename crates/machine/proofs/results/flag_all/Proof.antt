@@ -7,14 +7,14 @@ pub flag-all-spec : {M : Type 1} → statement M
 flag-all-spec =
     tie.close
     (tie.spec
-    (λ c. search needs)
+    (λ c. omega arith)
     (λ c. omega (arith, c .slice-known2 .given 3))
-    (λ c κs. search needs)
-    (λ c. search needs)
+    (λ c κs. tt)
+    (λ c. omega arith)
     (λ c. omega (arith, c .before .slice-known2 .given 3, c .is-zero .ensures .1))
-    (λ c. search needs)
+    (λ c. omega arith)
     (λ c. omega (arith, c .before .before .slice-known2 .given 3, c .before .is-zero .ensures .1))
     (λ c. omega (arith, c .before .before .before .slice-known2 .given 3, c .before .before .is-zero .ensures .1))
-    (λ c. search needs)
+    (λ c. omega arith)
     (λ c. search needs)
     (λ c. rw (c .before .before .is-zero .ensures .0)))

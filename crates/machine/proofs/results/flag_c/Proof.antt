@@ -10,9 +10,9 @@ pub flag-c-spec : {M : Type 1} → statement M
 flag-c-spec =
     tie.close
     (tie.spec
-    (λ c. search needs)
+    (λ c. omega arith)
     (λ c. omega (arith, c .slice-known .given 3))
     (λ c. omega (arith, c .slice-known .given 3))
-    (λ c. search needs)
+    (λ c. omega arith)
     (λ c. search needs)
     (λ c. rw (lowest-bit (c .before .args .carry) (getD (now (c .before .args .file)) 3 0))))

@@ -1,4 +1,3 @@
-use borrow.Author.Needs.{needs}
 use Rattle.machine.specs.Inner.{skipOf}
 use Rattle.machine.proofs.results.literal_sum.Statement.{statement}
 use Rattle.machine.proofs.results.literal_sum.Tie as tie
@@ -8,7 +7,7 @@ unfolding skipOf
 literal-sum-spec =
     tie.close
     (tie.spec
-    (λ c κs. search needs)
-    (λ c κs. search needs)
-    (λ c. search needs)
+    (λ c κs. c .before .before .pre)
+    (λ c κs. tt)
+    (λ c. c .before .before .before .flag-all .kept .0)
     (λ c. λ stack. rw (c .next .ensures, c .before .before .before .flag-all .ensures)))

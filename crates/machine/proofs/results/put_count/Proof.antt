@@ -1,6 +1,5 @@
 use denote.Ref.{now}
 use lib.Dec.{eqb}
-use borrow.Author.Needs.{needs}
 use Rattle.machine.proofs.Ways.{skips}
 use Rattle.machine.proofs.results.put_count.Statement.{statement}
 use Rattle.machine.proofs.results.put_count.Tie as tie
@@ -14,10 +13,10 @@ pub put-count-spec : {M : Type 1} → statement M
 put-count-spec =
     tie.close
     (tie.spec
-    (λ c. search needs)
-    (λ c κs. search needs)
-    (λ c. search needs)
-    (λ c κs. search needs)
+    (λ c. c .match .keys1)
+    (λ c κs. tt)
+    (λ c. c .match .keys2)
+    (λ c κs. c .before .before .before .before .pre)
     returns
-    (λ c. search needs)
+    (λ c. c .before .before .store-count .kept .1 .0)
     (λ c. rw (c .before .before .before .before .enum-told2 .given .1) (c .before .before .store-count .ensures)))

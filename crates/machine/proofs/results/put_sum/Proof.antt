@@ -1,5 +1,5 @@
+use mathlib.Core.Path.{_∙_}
 use denote.Ref.{now}
-use borrow.Author.Needs.{needs}
 use Rattle.alu.specs.Alu.{summed}
 use Rattle.machine.proofs.Ways.{lands}
 use Rattle.machine.proofs.results.put_sum.Statement.{statement}
@@ -18,7 +18,7 @@ pub put-sum-spec : {M : Type 1} → statement M
 put-sum-spec =
     tie.close
     (tie.spec
-    (λ c κs. search needs)
-    (λ c κs. search needs)
-    (λ c. search needs)
+    (λ c κs. (c .before .before .pre .0, c .before .before .pre .1))
+    (λ c κs. let at-put = c .before .before .before in let start = at-put .before .before .before in (at-put .put .kept .1 .0 ∙ start .pre .0, start .pre .2, start .pre .3))
+    (λ c. let at-flag = c .before .before in let at-put = at-flag .before .before .before .before in at-flag .flag-all .kept .0 ∙ at-put .put .kept .1 .0)
     returns)

@@ -1,5 +1,5 @@
+use mathlib.Core.Path.{_∙_}
 use denote.Ref.{now}
-use borrow.Author.Needs.{needs}
 use Rattle.alu.specs.Alu.{zeroed}
 use Rattle.machine.proofs.Ways.{lands}
 use Rattle.machine.proofs.results.put_z.Statement.{statement}
@@ -18,7 +18,7 @@ pub put-z-spec : {M : Type 1} → statement M
 put-z-spec =
     tie.close
     (tie.spec
-    (λ c κs. search needs)
-    (λ c κs. search needs)
-    (λ c. search needs)
+    (λ c κs. c .before .before .pre)
+    (λ c κs. let at-put = c .before .before .before in let start = at-put .before .before .before in at-put .put .kept .1 .0 ∙ start .pre .0)
+    (λ c. let at-flag = c .before .before in let at-put = at-flag .before .before .before .before in at-flag .flag-z .kept .0 ∙ at-put .put .kept .1 .0)
     returns)

@@ -33,16 +33,16 @@ pub store-count-spec : {M : Type 1} → statement M
 store-count-spec =
     tie.close
     (tie.spec
-    (λ c. search needs)
-    (λ c κs. search needs)
-    (λ c. search needs)
-    (λ c κs. search needs)
-    (λ c. search needs)
-    (λ c. search needs)
-    (λ c κs. search needs)
-    (λ c. search needs)
+    (λ c. c .match .keys1)
+    (λ c κs. tt)
+    (λ c. c .match .keys2)
+    (λ c κs. tt)
+    (λ c. c .match .keys3)
+    (λ c. omega arith)
+    (λ c κs. tt)
+    (λ c. c .match .keys4)
     slice-write-file-2
-    (λ c κs. search needs)
+    (λ c κs. tt)
     returns
     (λ c. λ stack. rw (c .before .enum-told2 .given .1, c .refused .ensures))
     (λ c. search needs)

@@ -118,8 +118,8 @@ go-spec =
     (λ c. search needs)
     add-stopped
     (λ c κs. omega arith)
-    (λ c. let at-turn = c .before .before .before .before .before .before .before .before .before in let turn-of = at-turn .before .before .before .before in let start = turn-of .before .before .before .before in at-turn .turn .kept .1 .0 ∙ turn-of .loop .inv .1 .places ∙ sym (start .pre .1 .places))
-    (λ c. let at-turn = c .before .before .before .before .before .before .before .before .before in let turn-of = at-turn .before .before .before .before in let start = turn-of .before .before .before .before in at-turn .turn .kept .1 .1 .1 .0 ∙ turn-of .loop .inv .0 ∙ sym (start .pre .0))
+    (λ c. let at-end = c .before .before .before in let at-turn = at-end .before .before .before .before .before .before in let turn-of = at-turn .before .before .before .before in let start = turn-of .before .before .before .before in at-turn .turn .kept .1 .0 ∙ turn-of .loop .inv .1 .places ∙ sym (start .pre .1 .places))
+    (λ c. let at-end = c .before .before .before in let at-turn = at-end .before .before .before .before .before .before in let turn-of = at-turn .before .before .before .before in let start = turn-of .before .before .before .before in at-turn .turn .kept .1 .1 .1 .0 ∙ turn-of .loop .inv .0 ∙ sym (start .pre .0))
     returns
     (λ c. omega arith)
     (λ c. omega arith)

@@ -1,4 +1,3 @@
-use borrow.Author.Needs.{needs}
 use Rattle.machine.proofs.running.past.Statement.{statement}
 use Rattle.machine.proofs.running.past.Tie as tie
 
@@ -6,5 +5,5 @@ pub past-spec : {M : Type 1} → statement M
 past-spec =
     tie.close
     (tie.spec
-    (λ c κs. search needs)
+    (λ c κs. tt)
     (λ c. rw (c .after .ensures)))

@@ -1,3 +1,4 @@
+use native.Mathlib.Omega.{arith}
 use mathlib.Core.Path.{_≡_, sym, _∙_}
 use denote.Ref.{now}
 use lib.ListN.{length}
@@ -22,23 +23,27 @@ go-requires c κs =
 
 returns-2 : tie.Need-returns-2
 returns-2 c =
-    let a = c .before .before .before .before .before .before .before .before .before .before .before .before .before .before .before .before .args in
-    let t = c .before .before .before .before .before .before .before .before .before .before .before .before .before .turned-down in
-    let none : t .result ≡ 0 = c .before .before .before .before .before .before .before .before .before .before .before .before .if1 .left in
+    let at-go = c .before .before .before .before .before .before in
+    let at-if = at-go .before .before .before .before .before .before in
+    let at-test = at-if .before in
+    let start = at-test .before .before .before in
+    let a = start .args in
+    let t = at-test .turned-down in
+    let none : t .result ≡ 0 = at-if .if1 .left in
     let p = passed (now (a .words)) (now (a .file)) (a .state) (a .n) (sym (t .ensures) ∙ none) in
-    rw (p .run) (c .before .before .before .before .before .before .go .ensures .0)
+    rw (p .run) (at-go .go .ensures .0)
 
 pub run-spec : {M : Type 1} → statement M
 run-spec =
     tie.close
     (tie.spec
-    (λ c κs. search needs)
+    (λ c κs. tt)
     returns
-    (λ c. search needs)
-    (λ c. search needs)
+    (λ c. omega arith)
+    (λ c. omega arith)
     (λ c. search needs)
     go-requires
-    (λ c. search needs)
-    (λ c. search needs)
+    (λ c. omega arith)
+    (λ c. omega arith)
     (λ c. search needs)
     returns-2)

@@ -1,3 +1,4 @@
+use native.Mathlib.Omega.{arith}
 use mathlib.Core.Path.{sym}
 use borrow.Author.Tests.{lt-ltb, le-ltb}
 use borrow.Author.Needs.{needs}
@@ -36,16 +37,16 @@ unfolding stepOf
 turn-spec =
     tie.close
     (tie.spec
-    (λ c κs. search needs)
+    (λ c κs. tt)
     (λ c. rw (c .refused .ensures, le-ltb _ _ (c .before .if1 .taken)))
-    (λ c. search needs)
-    (λ c. search needs)
-    (λ c κs. search needs)
-    (λ c. search needs)
+    (λ c. omega arith)
+    (λ c. omega arith)
+    (λ c κs. tt)
+    (λ c. c .match .keys1)
     step-requires
-    (λ c. search needs)
-    (λ c κs. search needs)
-    (λ c. search needs)
+    (λ c. c .match .keys2)
+    (λ c κs. tt)
+    (λ c. c .before .before .before .before .step .kept .1 .0)
     (λ c. search needs)
     returns-2
     returns-3)

@@ -1,7 +1,7 @@
 -- Each arm: the operand's function does what the form of the arm's instruction does.
+use native.Mathlib.Omega.{arith}
 use mathlib.Core.Path.{refl, _∙_}
 use denote.Ref.{now}
-use borrow.Author.Needs.{needs}
 use Rattle.alu.proofs.Laws.{place-in-byte}
 use Rattle.machine.specs.Forms.{formOf}
 use Rattle.machine.specs.Step.{stepForm, doneBy}
@@ -55,11 +55,12 @@ comf : tie.Need-returns-5
 unfolding doneBy formOf stepForm
 comf c =
     let at-put-z = c .before .before in
-    let found = at-put-z .before .before .before in
+    let at-complement = at-put-z .before in
+    let found = at-complement .before .before in
     let arm = found .before .before .before in
     let start = arm .before .before .before .before in
     let o = found .operand-at4 .ensures in
-    rw (arm .i4 .given .1, ← o .place, ← o .byte) (at-put-z .put-z3 .ensures (now (start .args .stack)))
+    rw (arm .i4 .given .1, ← o .place, ← o .byte, ← at-complement .complement .ensures) (at-put-z .put-z3 .ensures (now (start .args .stack)))
 
 decf : tie.Need-returns-6
 unfolding doneBy formOf stepForm
@@ -144,21 +145,23 @@ rlf : tie.Need-returns-14
 unfolding doneBy formOf stepForm
 rlf c =
     let at-put-c = c .before .before in
-    let found = at-put-c .before .before .before .before .before in
+    let at-turn = at-put-c .before .before in
+    let found = at-turn .before .before in
     let arm = found .before .before .before in
     let start = arm .before .before .before .before in
     let o = found .operand-at12 .ensures in
-    rw (arm .i12 .given .1, ← o .place, ← o .byte) (at-put-c .put-c .ensures (now (start .args .stack)))
+    rw (arm .i12 .given .1, ← o .place, ← o .byte, ← at-turn .rotate-left .ensures .0) (at-put-c .put-c .ensures (now (start .args .stack)))
 
 rrf : tie.Need-returns-15
 unfolding doneBy formOf stepForm
 rrf c =
     let at-put-c = c .before .before in
-    let found = at-put-c .before .before .before .before .before in
+    let at-turn = at-put-c .before .before in
+    let found = at-turn .before .before in
     let arm = found .before .before .before in
     let start = arm .before .before .before .before in
     let o = found .operand-at13 .ensures in
-    rw (arm .i13 .given .1, ← o .place, ← o .byte) (at-put-c .put-c2 .ensures (now (start .args .stack)))
+    rw (arm .i13 .given .1, ← o .place, ← o .byte, ← at-turn .rotate-right .ensures .0) (at-put-c .put-c2 .ensures (now (start .args .stack)))
 
 subwf : tie.Need-returns-16
 unfolding doneBy formOf stepForm
@@ -176,11 +179,12 @@ swapf : tie.Need-returns-17
 unfolding doneBy formOf stepForm
 swapf c =
     let at-put = c .before .before in
-    let found = at-put .before .before .before .before in
+    let at-swap = at-put .before in
+    let found = at-swap .before .before in
     let arm = found .before .before .before in
     let start = arm .before .before .before .before in
     let o = found .operand-at15 .ensures in
-    rw (arm .i15 .given .1, ← o .place, ← o .byte) (put-does _ _ _ _ _ (at-put .put .ensures) (now (start .args .stack)))
+    rw (arm .i15 .given .1, ← o .place, ← o .byte, ← at-swap .swap .ensures) (put-does _ _ _ _ _ (at-put .put .ensures) (now (start .args .stack)))
 
 xorwf : tie.Need-returns-18
 unfolding doneBy formOf stepForm
@@ -346,81 +350,78 @@ step-spec =
     (λ c. c .match .keys1)
     (λ c κs. let arm = c .before .before in let start = arm .before .before .before .before in (start .pre .1, (rw (arm .i .given .1) at (start .pre .3))))
     (λ c κs. tt)
-    (λ c κs. let found = c .before .before in let start = found .before .before .before .before .before .before .before in (start .pre .1, found .operand-at .ensures .inside, c .add .ensures .1 .0, c .add .ensures .1 .1))
+    (λ c κs. let found = c .before .before in let arm = found .before .before .before in let start = arm .before .before .before .before in (start .pre .1, found .operand-at .ensures .inside, c .add .ensures .1 .0, c .add .ensures .1 .1))
     (λ c. c .match .keys2)
     (λ c κs. let arm = c .before .before in let start = arm .before .before .before .before in (start .pre .1, (rw (arm .i2 .given .1) at (start .pre .3))))
     (λ c κs. tt)
-    (λ c κs. let found = c .before .before in let start = found .before .before .before .before .before .before .before in (start .pre .1, found .operand-at2 .ensures .inside))
+    (λ c κs. let found = c .before .before in let arm = found .before .before .before in let start = arm .before .before .before .before in (start .pre .1, found .operand-at2 .ensures .inside))
     (λ c. c .match .keys3)
     (λ c κs. let arm = c .before .before in let start = arm .before .before .before .before in (start .pre .1, (rw (arm .i3 .given .1) at (start .pre .3))))
-    (λ c κs. let start = c .before .before .before .before .before .before .before .before in (start .pre .1, c .before .operand-at3 .ensures .inside))
+    (λ c κs. let found = c .before in let arm = found .before .before .before in let start = arm .before .before .before .before in (start .pre .1, found .operand-at3 .ensures .inside))
     (λ c. c .match .keys4)
     (λ c κs. let start = c .before .before .before .before .before in start .pre .1)
     (λ c. c .match .keys5)
     (λ c κs. let arm = c .before .before in let start = arm .before .before .before .before in (start .pre .1, (rw (arm .i4 .given .1) at (start .pre .3))))
-    (λ c. search needs)
-    (λ c κs. let found = c .before .before in let start = found .before .before .before .before .before .before .before in (start .pre .1, found .operand-at4 .ensures .inside))
+    (λ c κs. tt)
+    (λ c κs. let found = c .before .before in let arm = found .before .before .before in let start = arm .before .before .before .before in (start .pre .1, found .operand-at4 .ensures .inside))
     (λ c. c .match .keys6)
     (λ c κs. let arm = c .before .before in let start = arm .before .before .before .before in (start .pre .1, (rw (arm .i5 .given .1) at (start .pre .3))))
     (λ c κs. tt)
-    (λ c κs. let found = c .before .before in let start = found .before .before .before .before .before .before .before in (start .pre .1, found .operand-at5 .ensures .inside))
+    (λ c κs. let found = c .before .before in let arm = found .before .before .before in let start = arm .before .before .before .before in (start .pre .1, found .operand-at5 .ensures .inside))
     (λ c. c .match .keys7)
     (λ c κs. let arm = c .before .before in let start = arm .before .before .before .before in (start .pre .1, (rw (arm .i6 .given .1) at (start .pre .3))))
     (λ c κs. tt)
-    (λ c κs. let found = c .before .before in let start = found .before .before .before .before .before .before .before in (start .pre .1, found .operand-at6 .ensures .inside))
+    (λ c κs. let found = c .before .before in let arm = found .before .before .before in let start = arm .before .before .before .before in (start .pre .1, found .operand-at6 .ensures .inside))
     (λ c. c .match .keys8)
     (λ c κs. let arm = c .before .before in let start = arm .before .before .before .before in (start .pre .1, (rw (arm .i7 .given .1) at (start .pre .3))))
     (λ c κs. tt)
-    (λ c κs. let found = c .before .before in let start = found .before .before .before .before .before .before .before in (start .pre .1, found .operand-at7 .ensures .inside))
+    (λ c κs. let found = c .before .before in let arm = found .before .before .before in let start = arm .before .before .before .before in (start .pre .1, found .operand-at7 .ensures .inside))
     (λ c. c .match .keys9)
     (λ c κs. let arm = c .before .before in let start = arm .before .before .before .before in (start .pre .1, (rw (arm .i8 .given .1) at (start .pre .3))))
     (λ c κs. tt)
-    (λ c κs. let found = c .before .before in let start = found .before .before .before .before .before .before .before in (start .pre .1, found .operand-at8 .ensures .inside))
+    (λ c κs. let found = c .before .before in let arm = found .before .before .before in let start = arm .before .before .before .before in (start .pre .1, found .operand-at8 .ensures .inside))
     (λ c. c .match .keys10)
     (λ c κs. let arm = c .before .before in let start = arm .before .before .before .before in (start .pre .1, (rw (arm .i9 .given .1) at (start .pre .3))))
     (λ c κs. tt)
-    (λ c κs. let found = c .before .before in let start = found .before .before .before .before .before .before .before in (start .pre .1, found .operand-at9 .ensures .inside))
+    (λ c κs. let found = c .before .before in let arm = found .before .before .before in let start = arm .before .before .before .before in (start .pre .1, found .operand-at9 .ensures .inside))
     (λ c. c .match .keys11)
     (λ c κs. let arm = c .before .before in let start = arm .before .before .before .before in (start .pre .1, (rw (arm .i10 .given .1) at (start .pre .3))))
-    (λ c κs. let start = c .before .before .before .before .before .before .before .before in (start .pre .1, c .before .operand-at10 .ensures .inside))
+    (λ c κs. let found = c .before in let arm = found .before .before .before in let start = arm .before .before .before .before in (start .pre .1, found .operand-at10 .ensures .inside))
     (λ c. c .match .keys12)
     (λ c κs. let arm = c .before .before in let start = arm .before .before .before .before in (start .pre .1, (rw (arm .i11 .given .1) at (start .pre .3))))
-    (λ c κs. let start = c .before .before .before .before .before .before .before .before in (start .pre .1, c .before .operand-at11 .ensures .inside))
+    (λ c κs. let found = c .before in let arm = found .before .before .before in let start = arm .before .before .before .before in (start .pre .1, found .operand-at11 .ensures .inside))
     (λ c. c .match .keys13)
     (λ c κs. tt)
     (λ c. c .match .keys14)
     (λ c κs. let arm = c .before .before in let start = arm .before .before .before .before in (start .pre .1, (rw (arm .i12 .given .1) at (start .pre .3))))
-    (λ c. search needs)
-    (λ c. search needs)
-    (λ c. search needs)
-    (λ c κs. search needs)
+    (λ c. omega arith)
+    (λ c κs. tt)
+    (λ c κs. let found = c .before .before .before in let arm = found .before .before .before in let start = arm .before .before .before .before in (start .pre .1, found .operand-at12 .ensures .inside, c .before .rotate-left .ensures .1))
     (λ c. c .match .keys15)
     (λ c κs. let arm = c .before .before in let start = arm .before .before .before .before in (start .pre .1, (rw (arm .i13 .given .1) at (start .pre .3))))
-    (λ c. search needs)
-    (λ c. search needs)
-    (λ c. search needs)
-    (λ c κs. search needs)
+    (λ c. omega arith)
+    (λ c κs. tt)
+    (λ c κs. let found = c .before .before .before in let arm = found .before .before .before in let start = arm .before .before .before .before in (start .pre .1, found .operand-at13 .ensures .inside, c .before .rotate-right .ensures .1))
     (λ c. c .match .keys16)
     (λ c κs. let arm = c .before .before in let start = arm .before .before .before .before in (start .pre .1, (rw (arm .i14 .given .1) at (start .pre .3))))
     (λ c κs. tt)
-    (λ c κs. let found = c .before .before in let start = found .before .before .before .before .before .before .before in (start .pre .1, found .operand-at14 .ensures .inside, c .subtract .ensures .1 .0, c .subtract .ensures .1 .1))
+    (λ c κs. let found = c .before .before in let arm = found .before .before .before in let start = arm .before .before .before .before in (start .pre .1, found .operand-at14 .ensures .inside, c .subtract .ensures .1 .0, c .subtract .ensures .1 .1))
     (λ c. c .match .keys17)
     (λ c κs. let arm = c .before .before in let start = arm .before .before .before .before in (start .pre .1, (rw (arm .i15 .given .1) at (start .pre .3))))
-    (λ c. search needs)
-    (λ c. search needs)
-    (λ c κs. let found = c .before .before .before in let start = found .before .before .before .before .before .before .before in (start .pre .1, found .operand-at15 .ensures .inside))
+    (λ c κs. tt)
+    (λ c κs. let found = c .before .before in let arm = found .before .before .before in let start = arm .before .before .before .before in (start .pre .1, found .operand-at15 .ensures .inside))
     (λ c. c .match .keys18)
     (λ c κs. let arm = c .before .before in let start = arm .before .before .before .before in (start .pre .1, (rw (arm .i16 .given .1) at (start .pre .3))))
     (λ c κs. tt)
-    (λ c κs. let found = c .before .before in let start = found .before .before .before .before .before .before .before in (start .pre .1, found .operand-at16 .ensures .inside))
+    (λ c κs. let found = c .before .before in let arm = found .before .before .before in let start = arm .before .before .before .before in (start .pre .1, found .operand-at16 .ensures .inside))
     (λ c. c .match .keys19)
     (λ c κs. let arm = c .before .before in let start = arm .before .before .before .before in (start .pre .1, (rw (arm .i17 .given .1) at (start .pre .3)) .0))
     (λ c κs. tt)
-    (λ c κs. let found = c .before .before in let start = found .before .before .before .before .before .before .before in (start .pre .1, found .operand-at17 .ensures .inside))
+    (λ c κs. let found = c .before .before in let arm = found .before .before .before in let start = arm .before .before .before .before in (start .pre .1, found .operand-at17 .ensures .inside))
     (λ c. c .match .keys20)
     (λ c κs. let arm = c .before .before in let start = arm .before .before .before .before in (start .pre .1, (rw (arm .i18 .given .1) at (start .pre .3)) .0))
     (λ c κs. tt)
-    (λ c κs. let found = c .before .before in let start = found .before .before .before .before .before .before .before in (start .pre .1, found .operand-at18 .ensures .inside))
+    (λ c κs. let found = c .before .before in let arm = found .before .before .before in let start = arm .before .before .before .before in (start .pre .1, found .operand-at18 .ensures .inside))
     (λ c. c .match .keys21)
     (λ c κs. let arm = c .before .before in let start = arm .before .before .before .before in (start .pre .1, (rw (arm .i19 .given .1) at (start .pre .3)) .0))
     (λ c κs. tt)
@@ -431,21 +432,21 @@ step-spec =
     (λ c κs. tt)
     (λ c. c .match .keys23)
     (λ c κs. tt)
-    (λ c κs. let start = c .before .before .before .before .before .before .before in (start .pre .1, c .add2 .ensures .1 .0, c .add2 .ensures .1 .1))
+    (λ c κs. let arm = c .before .before .before in let start = arm .before .before .before .before in (start .pre .1, c .add2 .ensures .1 .0, c .add2 .ensures .1 .1))
     (λ c. c .match .keys24)
     (λ c κs. tt)
-    (λ c κs. let start = c .before .before .before .before .before .before .before in start .pre .1)
+    (λ c κs. let arm = c .before .before .before in let start = arm .before .before .before .before in start .pre .1)
     (λ c. c .match .keys25)
     (λ c κs. let arm = c .before .before .before in let start = arm .before .before .before .before in (start .pre .0, start .pre .1, rw (arm .i23 .given .1) at (start .pre .3)))
     (λ c. c .match .keys26)
-    (λ c κs. search needs)
+    (λ c κs. let start = c .before .before .before .before .before in (start .pre .1, omega arith))
     (λ c κs. tt)
     (λ c. c .match .keys27)
     (λ c κs. let arm = c .before .before in let start = arm .before .before .before .before in (start .pre .1, rw (arm .i24 .given .1) at (start .pre .3)))
     (λ c κs. tt)
     (λ c. c .match .keys28)
     (λ c κs. tt)
-    (λ c κs. let start = c .before .before .before .before .before .before .before in start .pre .1)
+    (λ c κs. let arm = c .before .before .before in let start = arm .before .before .before .before in start .pre .1)
     (λ c. c .match .keys29)
     (λ c κs. tt)
     (λ c. c .match .keys30)
@@ -455,14 +456,14 @@ step-spec =
     (λ c. c .match .keys32)
     (λ c κs. let start = c .before .before .before .before .before in (start .pre .0, start .pre .2))
     (λ c. c .match .keys33)
-    (λ c κs. search needs)
+    (λ c κs. let start = c .before .before .before .before .before in (start .pre .1, omega arith))
     (λ c κs. tt)
     (λ c. c .match .keys34)
     (λ c κs. tt)
-    (λ c κs. let start = c .before .before .before .before .before .before .before in (start .pre .1, c .subtract2 .ensures .1 .0, c .subtract2 .ensures .1 .1))
+    (λ c κs. let arm = c .before .before .before in let start = arm .before .before .before .before in (start .pre .1, c .subtract2 .ensures .1 .0, c .subtract2 .ensures .1 .1))
     (λ c. c .match .keys35)
     (λ c κs. tt)
-    (λ c κs. let start = c .before .before .before .before .before .before .before in start .pre .1)
+    (λ c κs. let arm = c .before .before .before in let start = arm .before .before .before .before in start .pre .1)
     (λ c. c .before .before .put-sum .kept .1 .0)
     addwf
     (λ c. c .before .before .put-z .kept .1 .0)
@@ -510,24 +511,24 @@ step-spec =
     addlw
     (λ c. c .before .before .literal2 .kept .1 .0)
     andlw
-    (λ c. search needs)
-    (λ c. search needs)
+    (λ c. c .before .before .call .kept .1 .0)
+    (λ c. refl)
     call
-    (λ c. search needs)
+    (λ c. c .before .before .before .watchdog .kept .0)
     clrwdt
     (λ c. refl)
     goto
     (λ c. c .before .before .literal3 .kept .1 .0)
     iorlw
     movlw
-    (λ c. search needs)
-    (λ c. search needs)
+    (λ c. refl)
+    (λ c. c .before .before .retfie .kept .1 .1 .0)
     retfie
     (λ c. refl)
     retlw
     (λ c. refl)
     return
-    (λ c. search needs)
+    (λ c. c .before .before .before .watchdog2 .kept .0)
     sleep
     (λ c. c .before .before .literal-sum2 .kept .1 .0)
     sublw
