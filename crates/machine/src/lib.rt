@@ -1,4 +1,4 @@
-// The machine: its state, the registers, the arithmetic, one instruction, and a run of n of them.
+// The machine: its state, the registers, one instruction, and a run of n of them.
 // Document 01, "Registers" to "Run answers". Every public call takes every input.
 mod control;
 mod registers;
