@@ -76,6 +76,10 @@ plusOne v = (v + 1) % 256
 abbrev pub lessOne : ℕ → ℕ
 lessOne v = (v + 255) % 256
 
+-- Every bit the other way.
+abbrev pub complemented : ℕ → ℕ
+complemented v = 255 - v
+
 -- The nibbles exchanged.
 abbrev pub swapped : ℕ → ℕ
 swapped v = v % 16 * 16 + v / 16

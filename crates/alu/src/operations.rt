@@ -1,8 +1,8 @@
 // What the operations make of bytes: document 01, "One instruction". Sums and differences wrap at 256,
 // and their carries are found beside them.
 ghost use mathlib.Core.Path.{_≡_};
-ghost use Prim.Native.Nat.{_≤_, _-_, _%_};
-ghost use Rattle.alu.specs.Alu.{andOf, orOf, xorOf, bitOf, withBit, isZero, noBorrow, plusOne, lessOne, swapped};
+ghost use Prim.Native.Nat.{_≤_, _%_};
+ghost use Rattle.alu.specs.Alu.{andOf, orOf, xorOf, bitOf, withBit, isZero, noBorrow, plusOne, lessOne, complemented, swapped};
 ghost use Rattle.alu.specs.Answers.{Adds, Subtracts, AreBits, TurnsLeft, TurnsRight};
 
 // A sum or a difference, with DC and C.
@@ -69,8 +69,9 @@ pub fn xor(x: u8, w: u8) -> u8
     x ^ w
 }
 
+// Every bit the other way.
 pub fn complement(x: u8) -> u8
-    ensures { λ r. ⌜ r ≡ 255 - x ⌝ }
+    ensures { λ r. ⌜ r ≡ complemented x ⌝ }
 {
     255 - x
 }

@@ -1,11 +1,11 @@
 -- The 35 instructions as a few forms: a line for each row of Table 29-1, in the table's order. What a form does is in
 -- Step.antt. Assumes nothing.
-use Prim.Native.Nat.{ℕ, _-_}
+use Prim.Native.Nat.{ℕ}
 use Rattle.decoder.specs.declared.instruction.Dest.{Dest}
 use Rattle.decoder.specs.declared.instruction.Dest.the-variants.{File}
 use Rattle.decoder.specs.declared.instruction.Instruction.{Instruction}
 use Rattle.decoder.specs.declared.instruction.Instruction.the-variants.{Addwf, Andwf, Clrf, Clrw, Comf, Decf, Decfsz, Incf, Incfsz, Iorwf, Movf, Movwf, Nop, Rlf, Rrf, Subwf, Swapf, Xorwf, Bcf, Bsf, Btfsc, Btfss, Addlw, Andlw, Call, Clrwdt, Goto, Iorlw, Movlw, Retfie, Retlw, Return, Sleep, Sublw, Xorlw}
-use Rattle.alu.specs.Alu.{Result, plain, zeroed, added, subtracted, plusOne, lessOne, swapped, rotatedLeft, rotatedRight, andOf, orOf, xorOf, withBit}
+use Rattle.alu.specs.Alu.{Result, plain, zeroed, added, subtracted, plusOne, lessOne, complemented, swapped, rotatedLeft, rotatedRight, andOf, orOf, xorOf, withBit}
 
 -- CLRF, BCF and BSF: what becomes of the byte.
 pub data Patch : Type 0 where
@@ -40,7 +40,7 @@ formOf (Addwf f d) = byte f d (λ w v c. added v w)
 formOf (Andwf f d) = byte f d (λ w v c. zeroed (andOf v w))
 formOf (Clrf f) = patch f zeroes
 formOf Clrw = literal (λ w. zeroed 0)
-formOf (Comf f d) = byte f d (λ w v c. zeroed (255 - v))
+formOf (Comf f d) = byte f d (λ w v c. zeroed (complemented v))
 formOf (Decf f d) = byte f d (λ w v c. zeroed (lessOne v))
 formOf (Decfsz f d) = count f d lessOne
 formOf (Incf f d) = byte f d (λ w v c. zeroed (plusOne v))
