@@ -1,5 +1,3 @@
-use mir.Syntax.{w32}
-use mir.Val.{Fits}
 -- The loop's invariant: what n instructions from the start leave is what the rest of them leave from here on, after the
 -- instructions and the cycles so far.
 use mathlib.Core.Path.{_≡_, refl, sym, _∙_}
@@ -7,9 +5,11 @@ use mathlib.Core.Logic.{⊎-elim}
 use Prim.Native.Nat.{ℕ, _+_, _-_, _*_, _≤_, _<_}
 use native.Mathlib.Omega.{arith}
 use native.Mathlib.Nat.{sub-zero}
-use borrow.Author.Needs.{needs}
+use mir.Syntax.{w32}
+use mir.Val.{Fits}
 use denote.Ref.{now}
 use lib.ListN.{length}
+use borrow.Author.Needs.{needs}
 use Rattle.machine.specs.Run.{after, stepsOf}
 use Rattle.machine.specs.Inner.{Within, stateOf}
 use Rattle.machine.specs.Inner.Sign.{on}

@@ -1,5 +1,5 @@
-use native.Mathlib.Omega.{arith}
 use mathlib.Core.Path.{_≡_, sym, _∙_}
+use native.Mathlib.Omega.{arith}
 use denote.Ref.{now}
 use lib.ListN.{length}
 use borrow.Author.Tests.{leb-true}
@@ -13,13 +13,20 @@ returns c =
     let a = c .before .before .before .before .args in
     sym (turned-down (now (a .words)) (now (a .file)) (a .state) (a .n) (c .before .turned-down .result) (c .before .turned-down .ensures) (c .if1 .taken))
 
+-- The state's stack is an array of eight.
+eight-places : (start : tie.Start) → length (start .args .state .stack) ≡ 8
+eight-places start = search needs
+
 go-requires : tie.Need-go-requires
 go-requires c κs =
-    let a = c .before .before .before .before .before .before .before .before .before .args in
-    let t = c .before .before .before .before .before .before .turned-down in
-    let none : t .result ≡ 0 = c .before .before .before .before .before .if1 .left in
+    let at-if = c .before .before .before .before .before in
+    let at-test = at-if .before in
+    let start = at-test .before .before .before in
+    let a = start .args in
+    let t = at-test .turned-down in
+    let none : t .result ≡ 0 = at-if .if1 .left in
     let p = passed (now (a .words)) (now (a .file)) (a .state) (a .n) (sym (t .ensures) ∙ none) in
-    (bytes-fit (length (now (a .words))) (length (now (a .file))) (p .sizes), within (a .state) (search needs) (p .state), leb-true _ _ (p .count))
+    (bytes-fit (length (now (a .words))) (length (now (a .file))) (p .sizes), within (a .state) (eight-places start) (p .state), leb-true _ _ (p .count))
 
 returns-2 : tie.Need-returns-2
 returns-2 c =

@@ -1,6 +1,6 @@
 -- Each arm: the operand's function does what the form of the arm's instruction does.
-use native.Mathlib.Omega.{arith}
 use mathlib.Core.Path.{refl, _∙_}
+use native.Mathlib.Omega.{arith}
 use denote.Ref.{now}
 use Rattle.alu.proofs.Laws.{place-in-byte}
 use Rattle.machine.specs.Forms.{formOf}
