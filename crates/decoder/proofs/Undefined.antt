@@ -109,7 +109,7 @@ refused w e = sym (refused_6 w (undefined_exactly w ∙ e))
 
 -- For the code's last arms, whose numbers stand here last one first: a word with no row among the lowest 0x0080, and
 -- one whose upper six bits have none.
-abbrev lowest : List ℕ
+abbrev pub lowest : List ℕ
 lowest = 0x64 ∷ 0x63 ∷ 0x09 ∷ 0x08 ∷ 0x60 ∷ 0x40 ∷ 0x20 ∷ 0x00 ∷ []
 
 pub no_low_row : (w : ℕ) → w < 0x0080 → Refuted w lowest → refuses 6 ≡ decode_of w
@@ -118,7 +118,7 @@ no_low_row w low none =
     let listed_or_not : ℕ → Bool = λ v. is_one_of v lowest || undefined_of v in
     refused w (rw (not_one w lowest none) at (below listed_or_not 0x0080 refl w low))
 
-abbrev tops : List ℕ
+abbrev pub tops : List ℕ
 tops =
     63 ∷ 62 ∷ 61 ∷ 60 ∷ 58 ∷ 57 ∷ 56 ∷ 55 ∷ 54 ∷ 53 ∷ 52 ∷ 51 ∷ 50 ∷ 49 ∷ 48 ∷ 47 ∷ 46 ∷ 45 ∷ 44 ∷ 43 ∷ 42 ∷ 41 ∷ 40 ∷ 39 ∷ 38 ∷ 37 ∷ 36 ∷ 35 ∷ 34 ∷ 33 ∷ 32
     ∷ 31 ∷ 30 ∷ 29 ∷ 28 ∷ 27 ∷ 26 ∷ 25 ∷ 24 ∷ 23 ∷ 22 ∷ 21 ∷ 20 ∷ 19 ∷ 18 ∷ 17 ∷ 16 ∷ 15 ∷ 14 ∷ 13 ∷ 12 ∷ 11 ∷ 10 ∷ 9 ∷ 8 ∷ 7 ∷ 6 ∷ 5 ∷ 4 ∷ 3 ∷ 2 ∷ []

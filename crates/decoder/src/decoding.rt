@@ -95,6 +95,7 @@ pub fn decode(word: u16) -> Decoded
 }
 
 // 0x0000 to 0x007F: the words with no operand.
+#[tactic(auto, using(crate::proofs::Undefined::no_low_row), unfolding(crate::specs::Table::decode_of, crate::specs::Table::rows_of, crate::specs::Table::rows, crate::specs::Table::fixed))]
 fn lowest(word: u16) -> Decoded
     requires { word < 128 }
     ensures { Decodes word result }

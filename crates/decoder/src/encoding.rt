@@ -15,7 +15,7 @@ const LAST_B: u8 = 7;
 
 const LAST_K11: usize = 2047;
 
-#[derive(Drop)]
+#[derive(Clone, Copy)]
 pub enum Encoded {
     Word(u16),
     // An operand above its field: number 10.
@@ -23,7 +23,7 @@ pub enum Encoded {
 }
 
 // The operands in their places of a word, or that one does not fit.
-#[derive(Drop)]
+#[derive(Clone, Copy)]
 pub(crate) enum Placed {
     Bits(u16),
     TooLarge,
@@ -43,6 +43,7 @@ pub fn encode(i: Instruction) -> Encoded
     }
 }
 
+#[tactic(auto, unfolding(crate::specs::Inner::fields_of))]
 fn place(operands: Operands) -> Placed
     ensures { placing result ≡ fields_of operands }
 {

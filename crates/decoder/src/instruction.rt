@@ -2,13 +2,13 @@
 // and a byte k are u8; the eleven-bit k of CALL and GOTO is part of an address, and usize.
 
 // Where a result goes: d.
-#[derive(Drop)]
+#[derive(Clone, Copy)]
 pub enum Dest {
     W,
     File,
 }
 
-#[derive(Drop)]
+#[derive(Clone, Copy)]
 pub enum Instruction {
     // byte-oriented file register operations
     Addwf(u8, Dest),
@@ -51,7 +51,7 @@ pub enum Instruction {
 }
 
 // What a word means.
-#[derive(Drop)]
+#[derive(Clone, Copy)]
 pub enum Decoded {
     Is(Instruction),
     // None of the rows: number 6.
@@ -59,7 +59,7 @@ pub enum Decoded {
 }
 
 // The operands of a row, by the table's letters.
-#[derive(Drop)]
+#[derive(Clone, Copy)]
 pub enum Operands {
     None,
     F(u8),

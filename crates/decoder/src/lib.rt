@@ -1,5 +1,7 @@
 // Words, instructions and text: Table 29-1 of the maker's manual. The decoder, the encoder, the
 // one-line disassembler and the listing. Every call takes every input.
+#![tactic(auto)]
+
 mod decoding;
 mod encoding;
 mod instruction;

@@ -22,7 +22,7 @@ const WORDS: usize = 1;
 
 pub const LONGEST_INPUT: usize = HEADER + MOST_BYTES;
 
-#[derive(Drop)]
+#[derive(Clone, Copy)]
 pub enum Listed {
     // How many bytes were written.
     Text(usize),
@@ -47,6 +47,7 @@ pub fn list(input: &[u8], out: &mut [u8]) -> Listed
 }
 
 // Whether the input has that form.
+#[tactic(auto, unfolding(crate::specs::Listing::accepted_of))]
 fn accepted(input: &[u8]) -> bool
     ensures { result ≡ accepted_of input.now }
 {

@@ -6,7 +6,7 @@ use crate::instruction::{Instruction, Operands};
 
 // A row of the table: the mnemonic with its letters first, how many they are, the word with its
 // operands and x bits 0, and the operands.
-#[derive(Drop)]
+#[derive(Clone, Copy)]
 pub(crate) struct Entry(pub [u8; 6], pub usize, pub u16, pub Operands);
 
 // The mnemonics, filled with spaces.

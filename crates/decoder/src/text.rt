@@ -12,7 +12,7 @@ use crate::table::printed;
 // A buffer has room for a text from 14 bytes on.
 pub const TEXT_ROOM: usize = 14;
 
-#[derive(Drop)]
+#[derive(Clone, Copy)]
 pub enum Disassembled {
     // The text's length.
     Text(usize),
@@ -128,6 +128,7 @@ pub(crate) fn put(out: &mut [u8], at: usize, byte: u8) -> usize
 }
 
 // The lowest hexadecimal digit of v, in capitals.
+#[tactic(auto, using(crate::proofs::Writing::digit_is))]
 fn hex_digit(v: usize) -> u8
     ensures { result ≡ digit (v % 16) }
 {
