@@ -1,4 +1,6 @@
 // The arithmetic: what the operations make of bytes. Every call takes every input.
+#![tactic(auto)]
+
 mod operations;
 
 pub use operations::{

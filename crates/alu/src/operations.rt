@@ -5,7 +5,7 @@ ghost use Rattle.alu.specs.Alu.{and_of, or_of, xor_of, bit_of, with_bit, is_zero
 ghost use Rattle.alu.specs.Answers.{Adds, Subtracts, AreBits, TurnsLeft, TurnsRight};
 
 // A sum or a difference, with DC and C.
-#[derive(Drop)]
+#[derive(Clone, Copy)]
 pub struct Sum {
     pub value: u8,
     pub digit: u8,
@@ -84,7 +84,7 @@ pub fn swap(x: u8) -> u8
 }
 
 // A byte turned through C, and the C that leaves it.
-#[derive(Drop)]
+#[derive(Clone, Copy)]
 pub struct Turned {
     pub value: u8,
     pub carry: u8,
