@@ -1,5 +1,5 @@
 -- What the crate's own functions tell each other. No promise names it, so a reader may skip it. Assumes nothing.
-use Rattle.std.specs.Prelude.{◌≡◌, Bool, true, false, cond, List, ℕ, ◌+◌, ◌-◌, ◌≤◌, ◌<◌, leb, eqb, length}
+use Rattle.std.specs.Prelude.{◌≡◌, Bool, true, false, cond, List, ℕ, ◌+◌, ◌≤◌, ◌<◌, leb, eqb, length}
 use Rattle.decoder.specs.declared.instruction.Dest.{Dest}
 use Rattle.decoder.specs.declared.instruction.Dest.TheVariants.{W, File}
 use Rattle.alu.specs.Alu.{to_bit}

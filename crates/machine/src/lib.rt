@@ -1,5 +1,7 @@
 // The machine: its state, the registers, one instruction, and a run of n of them.
 // Document 01, "Registers" to "Run answers". Every public call takes every input.
+#![tactic(auto)]
+
 mod control;
 mod registers;
 mod results;

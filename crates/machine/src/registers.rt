@@ -16,7 +16,7 @@ const FIRST_PLAIN: usize = 0x0C;
 const FIRST_SHARED: usize = 0x70;
 
 // Where an address leads.
-#[derive(Drop)]
+#[derive(Clone, Copy)]
 pub enum Place {
     // INDF, reached through itself.
     Nowhere,
@@ -28,7 +28,7 @@ pub enum Place {
 }
 
 // A register's place and its byte.
-#[derive(Drop)]
+#[derive(Clone, Copy)]
 pub(crate) struct Operand {
     pub(crate) place: Place,
     pub(crate) byte: u8,

@@ -11,7 +11,7 @@ use crate::step::{End, Stepped, step};
 use decoder::Decoded;
 
 // A run's result: the state after it, the instructions done, their cycles, and document 01's number.
-#[derive(Drop)]
+#[derive(Clone, Copy)]
 pub struct Ran {
     pub state: State,
     pub done: u32,
@@ -81,7 +81,7 @@ fn turned_down(words: usize, bytes: usize, state: State, n: u32) -> u8
 }
 
 // What the loop leaves beside the stack and the file.
-#[derive(Drop)]
+#[derive(Clone, Copy)]
 pub(crate) struct Gone {
     pub(crate) core: Core,
     pub(crate) done: u32,

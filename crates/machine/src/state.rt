@@ -5,7 +5,7 @@ ghost use Rattle.machine.specs.State.{plus};
 ghost use Rattle.machine.specs.Run.{entries_fit};
 ghost use Rattle.machine.specs.Answers.{IsBlank, IsBlankFile};
 
-#[derive(Drop)]
+#[derive(Clone, Copy)]
 pub struct State {
     pub w: u8,
     pub counter: u16,
@@ -62,7 +62,7 @@ pub(crate) fn entries_fit(stack: [u16; 8]) -> bool
 }
 
 // What an instruction works on, beside the stack and the file: a state without its stack.
-#[derive(Drop)]
+#[derive(Clone, Copy)]
 pub(crate) struct Core {
     pub(crate) w: u8,
     pub(crate) counter: usize,

@@ -16,14 +16,14 @@ use alu::{
 use decoder::{Dest, Instruction};
 
 // How a step ends: the run goes on, goes on past the next word, or stops with a number.
-#[derive(Drop)]
+#[derive(Clone, Copy)]
 pub enum End {
     Next,
     Skip,
     Stop(u8),
 }
 
-#[derive(Drop)]
+#[derive(Clone, Copy)]
 pub(crate) struct Stepped {
     pub(crate) core: Core,
     pub(crate) cycles: u32,

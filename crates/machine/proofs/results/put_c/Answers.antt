@@ -1,0 +1,10 @@
+-- A byte, and then its flags: what `to_dest` does with a `carried` result. Assumes nothing.
+use Rattle.alu.specs.Alu.{carried}
+use Rattle.machine.proofs.Ways.{lands}
+use Rattle.machine.proofs.results.put_c.Goals as goal
+
+pub returns : goal.returns
+returns c =
+    let a = c.args in
+    let put = c.put-r.ensures in
+    λ stack. rw (put.0, c.flag_c.ensures, put.1) (lands a.c a.file.now a.d a.o.place (carried a.turn.value a.turn.carry) stack)

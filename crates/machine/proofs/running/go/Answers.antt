@@ -1,0 +1,55 @@
+-- A turn goes on or stops as one of `steps_of` does, so the loop keeps its invariant and ends as `steps_of` does.
+-- Assumes nothing.
+use Rattle.std.proofs.Common.{◌≡◌, ℕ, ◌+◌, ◌≤◌, refl, sym, arith}
+use Rattle.machine.specs.Inner.{state_of}
+use Rattle.machine.specs.Inner.Sign.{on}
+use Rattle.machine.proofs.Turns.{GoesOn, go_on, go_stop, carried_on, broken_off, at_the_end}
+use Rattle.machine.proofs.running.go.Goals.{in-Next, in-Skip}
+use Rattle.machine.proofs.running.go.Goals as goal
+
+pub overflow_add-cycles : goal.overflow_add-cycles
+overflow_add-cycles c =
+    let l = c.loop-done in
+    let went = go_on c.args.words.now (state_of l.core l.stack) l.file l.invariant.within l.invariant.bytes (rw c.in-Next.is at c.turn-r.ensures) refl in
+    let cost : c.turn-r.result.cycles ≤ 2 = went.cost in
+    omega arith
+
+pub overflow_add-cycles-in-Stop : goal.overflow_add-cycles-in-Stop
+overflow_add-cycles-in-Stop c =
+    let l = c.loop-done in
+    let broke = go_stop c.args.words.now (state_of l.core l.stack) l.file l.invariant.within l.invariant.bytes (rw c.in-Stop.is at c.turn-r.ensures) _ refl in
+    let cost : c.turn-r.result.cycles ≤ 2 = broke.cost in
+    omega arith
+
+pub returns-in-Stop : goal.returns-in-Stop
+returns-in-Stop c =
+    let l = c.loop-done in
+    let words = c.args.words.now in
+    let s = state_of l.core l.stack in
+    let broke = go_stop words s l.file l.invariant.within l.invariant.bytes (rw c.in-Stop.is at c.turn-r.ensures) _ refl in
+    rw c.stopped.ensures (sym (broken_off words c.args.n _ s l.file l.done l.cycles c.loop-done-test.true l.invariant.so_far _ _ broke), broke.within)
+
+pub loop-done-preserved : goal.loop-done-preserved
+loop-done-preserved c =
+    let l = c.loop-done in
+    let t = c.turn-r in
+    let words = c.args.words.now in
+    let s = state_of l.core l.stack in
+    let moved : (k : ℕ) × (c.match-end.cycles ≡ l.cycles + k) × GoesOn words s l.file (record { state = state_of c.match-end.core t.new.stack; file = t.new.file; cycles = k; sign = on }) =
+    elim c.match-end.branch [
+      | in-Next w ↦ (t.result.cycles, w.cycles-is, rw w.core-is (go_on words s l.file l.invariant.within l.invariant.bytes (rw w.in-Next.is at t.ensures) refl))
+      | in-Skip w ↦ (2, w.cycles-is, rw (w.core-is, w.past-core.ensures) (go_on words s l.file l.invariant.within l.invariant.bytes (rw w.in-Skip.is at t.ensures) refl))
+    ] in
+    let (k, spent, went) = moved in
+    record {
+      bytes = went.bytes;
+      within = went.within;
+      not_past = omega arith;
+      cost = omega (arith, spent, went.cost);
+      so_far = rw spent (carried_on words c.args.n _ s l.file l.done l.cycles c.loop-done-test.true l.invariant.so_far (record { state = state_of c.match-end.core t.new.stack; file = t.new.file; cycles = k; sign = on }) went);
+    }
+
+pub returns : goal.returns
+returns c =
+    let l = c.loop-done in
+    (sym (at_the_end c.args.words.now c.args.n _ (state_of l.core l.stack) l.file l.done l.cycles c.loop-done-test.false l.invariant.so_far l.invariant.not_past), l.invariant.within)

@@ -1,0 +1,24 @@
+-- The word at the counter is decoded and done, or refused, as `step_of` says. Assumes nothing.
+use Rattle.std.proofs.Common.{sym}
+use borrow.Author.Tests.{lt-ltb, le-ltb}
+use Rattle.decoder.proofs.Laws.{operands_in_range}
+use Rattle.machine.specs.Step.{step_of}
+use Rattle.machine.proofs.running.turn.Goals as goal
+
+pub returns-then-a-words : goal.returns-then-a-words
+unfolding step_of
+returns-then-a-words c = rw (c.refused.ensures, le-ltb _ _ c.if-a-words.true)
+
+pub step-requires : goal.step-requires
+step-requires c =
+    let word = rw c.in-Is.is at c.decode-d.ensures in
+    (c.requires.1, c.requires.0, c.requires.2, operands_in_range _ _ (sym word))
+
+pub returns-in-Is : goal.returns-in-Is
+unfolding step_of
+returns-in-Is c = rw (lt-ltb _ _ c.if-a-words.false, ← c.decode-d.ensures, c.in-Is.is) c.step.ensures
+
+pub returns-in-Undefined : goal.returns-in-Undefined
+unfolding step_of
+returns-in-Undefined c =
+    rw (lt-ltb _ _ c.if-a-words.false, ← c.decode-d.ensures, c.in-Undefined.is, c.refused-in-Undefined.ensures)
