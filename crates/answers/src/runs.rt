@@ -1,8 +1,8 @@
 // The run's answers: document 01, "Run answers", in the order of its table. Each line has the case, the
 // number, both counts, the state with the first and the last stack entry, and the bytes that the case's
 // words write or would write: STATUS, INTCON and the one at 0x20.
-use libc::STDOUT_FILENO;
 use machine::{Ran, State};
+use std::io;
 
 // The words, by their text.
 const NOP: u16 = 0x0000;
@@ -36,110 +36,113 @@ const MOVLW_5: u16 = 0x3005;
 
 const RETLW_5: u16 = 0x3405;
 
-pub fn answers() {
-    all_done();
-    asleep();
-    sizes();
-    states();
-    too_many();
-    first_of_several();
-    past_the_words();
-    undefined_word();
-    full_stack();
-    empty_stack();
-    counted_pcl();
+pub fn answers(rt: &impl Print) -> io::Result<()> {
+    all_done(rt)?;
+    asleep(rt)?;
+    sizes(rt)?;
+    states(rt)?;
+    too_many(rt)?;
+    first_of_several(rt)?;
+    past_the_words(rt)?;
+    undefined_word(rt)?;
+    full_stack(rt)?;
+    empty_stack(rt)?;
+    counted_pcl(rt)
 }
 
 // 0: n instructions.
-fn all_done() {
-    tried(b"all n", &[MOVWF_20, MOVLW_5], given(), 2);
+fn all_done(rt: &impl Print) -> io::Result<()> {
+    tried(rt, b"all n", &[MOVWF_20, MOVLW_5], given(), 2)
 }
 
 // 1: SLEEP ends the run, also as the last of n, and a later run goes on behind it.
-fn asleep() {
+fn asleep(rt: &impl Print) -> io::Result<()> {
     let words = [MOVWF_20, SLEEP, MOVLW_5];
-    tried(b"SLEEP before n", &words, given(), 3);
+    tried(rt, b"SLEEP before n", &words, given(), 3)?;
     let mut file = marked();
-    let state = tried_on(b"SLEEP as n", &words, &mut file, given(), 2);
-    tried_on(b"later run", &words, &mut file, state, 1);
+    let state = tried_on(rt, b"SLEEP as n", &words, &mut file, given(), 2)?;
+    tried_on(rt, b"later run", &words, &mut file, state, 1)?;
+    Ok(())
 }
 
 // 2: the file's bytes, or the words. 8,192 are run, and the first follows the last.
-fn sizes() {
+fn sizes(rt: &impl Print) -> io::Result<()> {
     let mut short = [17u8; 511];
-    tried_on(b"511 bytes", &[MOVWF_20], &mut short, given(), 1);
+    tried_on(rt, b"511 bytes", &[MOVWF_20], &mut short, given(), 1)?;
     let mut long = [17u8; 513];
-    tried_on(b"513 bytes", &[MOVWF_20], &mut long, given(), 1);
+    tried_on(rt, b"513 bytes", &[MOVWF_20], &mut long, given(), 1)?;
     let words = [MOVWF_20; 8193];
-    tried(b"0 words", &words[..0], given(), 1);
-    tried(b"8193 words", &words, given(), 1);
-    tried(b"8192 words", &words[..8192], at(8191), 1);
+    tried(rt, b"0 words", &words[..0], given(), 1)?;
+    tried(rt, b"8193 words", &words, given(), 1)?;
+    tried(rt, b"8192 words", &words[..8192], at(8191), 1)
 }
 
 // 3: counter, depth and any stack entry. The largest that fit are run.
-fn states() {
-    tried(b"counter 8192", &[MOVWF_20], at(8192), 1);
-    tried(b"depth 9", &[MOVWF_20], deep(9, 9), 1);
-    tried(b"entry 8192 at depth 0", &[MOVWF_20], deep(0, 8192), 1);
-    tried(b"depth 8, entry 8191", &[MOVWF_20], deep(8, 8191), 1);
+fn states(rt: &impl Print) -> io::Result<()> {
+    tried(rt, b"counter 8192", &[MOVWF_20], at(8192), 1)?;
+    tried(rt, b"depth 9", &[MOVWF_20], deep(9, 9), 1)?;
+    tried(rt, b"entry 8192 at depth 0", &[MOVWF_20], deep(0, 8192), 1)?;
+    tried(rt, b"depth 8, entry 8191", &[MOVWF_20], deep(8, 8191), 1)
 }
 
 // 4: n. The largest that fits is run.
-fn too_many() {
-    tried(b"n 1000001", &[SLEEP], given(), 1000001);
-    tried(b"n 1000000", &[SLEEP], given(), 1000000);
+fn too_many(rt: &impl Print) -> io::Result<()> {
+    tried(rt, b"n 1000001", &[SLEEP], given(), 1000001)?;
+    tried(rt, b"n 1000000", &[SLEEP], given(), 1000000)
 }
 
 // 2 before 3 before 4.
-fn first_of_several() {
+fn first_of_several(rt: &impl Print) -> io::Result<()> {
     let mut short = [17u8; 511];
-    tried_on(b"2, 3 and 4", &[SLEEP], &mut short, at(8192), 1000001);
-    tried(b"3 and 4", &[SLEEP], at(8192), 1000001);
+    tried_on(rt, b"2, 3 and 4", &[SLEEP], &mut short, at(8192), 1000001)?;
+    tried(rt, b"3 and 4", &[SLEEP], at(8192), 1000001)
 }
 
 // 5: the words end, after two instructions or at once. With n = 0 there is none to look for.
-fn past_the_words() {
+fn past_the_words(rt: &impl Print) -> io::Result<()> {
     let words = [MOVWF_20, MOVLW_5];
-    tried(b"off the end", &words, given(), 3);
-    tried(b"past the words", &words, at(2), 1);
-    tried(b"past the words, n 0", &words, at(2), 0);
+    tried(rt, b"off the end", &words, given(), 3)?;
+    tried(rt, b"past the words", &words, at(2), 1)?;
+    tried(rt, b"past the words, n 0", &words, at(2), 0)
 }
 
 // 6: all before is kept, and no more.
-fn undefined_word() {
+fn undefined_word(rt: &impl Print) -> io::Result<()> {
     tried(
+        rt,
         b"undefined word",
         &[MOVWF_20, UNDEFINED, CLRF_20],
         given(),
         3,
-    );
+    )
 }
 
 // 7: CALL 0 from depth 0.
-fn full_stack() {
-    tried(b"ninth CALL", &[CALL_0], deep(0, 9), 9);
+fn full_stack(rt: &impl Print) -> io::Result<()> {
+    tried(rt, b"ninth CALL", &[CALL_0], deep(0, 9), 9)
 }
 
 // 8: neither W nor INTCON is written.
-fn empty_stack() {
-    tried(b"RETURN at depth 0", &[RETURN], deep(0, 9), 1);
-    tried(b"RETLW at depth 0", &[RETLW_5], deep(0, 9), 1);
-    tried(b"RETFIE at depth 0", &[RETFIE], deep(0, 9), 1);
+fn empty_stack(rt: &impl Print) -> io::Result<()> {
+    tried(rt, b"RETURN at depth 0", &[RETURN], deep(0, 9), 1)?;
+    tried(rt, b"RETLW at depth 0", &[RETLW_5], deep(0, 9), 1)?;
+    tried(rt, b"RETFIE at depth 0", &[RETFIE], deep(0, 9), 1)
 }
 
 // 9: PCL as the destination, by its own address or in bank 1 through FSR. To W it is not refused.
-fn counted_pcl() {
-    tried(b"INCFSZ PCL", &[NOP, INCFSZ_PCL_1], given(), 2);
-    tried(b"DECFSZ PCL", &[NOP, DECFSZ_PCL_1], given(), 2);
+fn counted_pcl(rt: &impl Print) -> io::Result<()> {
+    tried(rt, b"INCFSZ PCL", &[NOP, INCFSZ_PCL_1], given(), 2)?;
+    tried(rt, b"DECFSZ PCL", &[NOP, DECFSZ_PCL_1], given(), 2)?;
     let mut pointing = given();
     pointing.w = 0x82;
     tried(
+        rt,
         b"INCFSZ through FSR",
         &[MOVWF_FSR, INCFSZ_INDF_1],
         pointing,
         2,
-    );
-    tried(b"INCFSZ PCL to W", &[INCFSZ_PCL_0], given(), 1);
+    )?;
+    tried(rt, b"INCFSZ PCL to W", &[INCFSZ_PCL_0], given(), 1)
 }
 
 // What a case starts from, but for what it names.
@@ -171,52 +174,61 @@ fn marked() -> [u8; 512] {
     file
 }
 
-fn tried(name: &[u8], words: &[u16], state: State, n: u32) {
+fn tried(rt: &impl Print, name: &[u8], words: &[u16], state: State, n: u32) -> io::Result<()> {
     let mut file = marked();
-    tried_on(name, words, &mut file, state, n);
+    tried_on(rt, name, words, &mut file, state, n)?;
+    Ok(())
 }
 
-fn tried_on(name: &[u8], words: &[u16], file: &mut [u8], state: State, n: u32) -> State {
+fn tried_on(
+    rt: &impl Print,
+    name: &[u8],
+    words: &[u16],
+    file: &mut [u8],
+    state: State,
+    n: u32,
+) -> io::Result<State> {
     let ran = machine::run(words, file, state, n);
-    write_ran(name, ran);
-    write_file(file);
-    ran.state
+    write_ran(rt, name, ran)?;
+    write_file(rt, file)?;
+    Ok(ran.state)
 }
 
-fn write_ran(name: &[u8], ran: Ran) {
-    io::write_all(STDOUT_FILENO, name);
-    write(b": ", ran.number as u64);
-    write(b" done ", ran.done as u64);
-    write(b" cycles ", ran.cycles as u64);
+fn write_ran(rt: &impl Print, name: &[u8], ran: Ran) -> io::Result<()> {
+    rt.write_all(name)?;
+    write(rt, b": ", ran.number as u64)?;
+    write(rt, b" done ", ran.done as u64)?;
+    write(rt, b" cycles ", ran.cycles as u64)?;
     let state = ran.state;
     let stack = state.stack;
-    write(b" W ", state.w as u64);
-    write(b" counter ", state.counter as u64);
-    write(b" depth ", state.depth as u64);
-    write_entry(b" stack ", stack[0]);
-    write_entry(b" ", stack[7]);
+    write(rt, b" W ", state.w as u64)?;
+    write(rt, b" counter ", state.counter as u64)?;
+    write(rt, b" depth ", state.depth as u64)?;
+    write_entry(rt, b" stack ", stack[0])?;
+    write_entry(rt, b" ", stack[7])
 }
 
-fn write_file(file: &[u8]) {
-    write_byte(b" STATUS ", file, 0x03);
-    write_byte(b" INTCON ", file, 0x0B);
-    write_byte(b" 0x20 ", file, 0x20);
-    io::write_all(STDOUT_FILENO, b"\n");
+fn write_file(rt: &impl Print, file: &[u8]) -> io::Result<()> {
+    write_byte(rt, b" STATUS ", file, 0x03)?;
+    write_byte(rt, b" INTCON ", file, 0x0B)?;
+    write_byte(rt, b" 0x20 ", file, 0x20)?;
+    rt.write_all(b"\n")
 }
 
-fn write_entry(name: &[u8], entry: u16) {
-    write(name, entry as u64);
+fn write_entry(rt: &impl Print, name: &[u8], entry: u16) -> io::Result<()> {
+    write(rt, name, entry as u64)
 }
 
-fn write_byte(name: &[u8], file: &[u8], place: usize) {
+fn write_byte(rt: &impl Print, name: &[u8], file: &[u8], place: usize) -> io::Result<()> {
     if place < file.len() {
-        write(name, wide(file[place]));
+        write(rt, name, wide(file[place]))?;
     }
+    Ok(())
 }
 
-fn write(name: &[u8], n: u64) {
-    io::write_all(STDOUT_FILENO, name);
-    io::print_decimal(STDOUT_FILENO, n);
+fn write(rt: &impl Print, name: &[u8], n: u64) -> io::Result<()> {
+    rt.write_all(name)?;
+    print!(rt; "{n}")
 }
 
 fn wide(x: u8) -> u64 {

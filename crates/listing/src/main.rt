@@ -1,19 +1,42 @@
 // Reads a firmware's words from standard input and writes their listing to standard output, or the
 // line REFUSED. What is written is decided by decoder::list, which is proved; this only carries
 // bytes.
-use decoder::{LISTING_ROOM, LONGEST_INPUT, Listed};
-use libc::{STDIN_FILENO, STDOUT_FILENO};
+#![tactic(auto)]
 
-fn main() {
+ghost use Rattle.std.specs.Prelude.{◌≤◌, ◌<◌, length, take, IfOk};
+ghost use Rattle.std.specs.Io.KnownBytes.{Consumes, IsAtEnd};
+
+use decoder::{LISTING_ROOM, LONGEST_INPUT, Listed};
+use std::io;
+use std::io::Read;
+
+fn main(rt: HostRuntime) -> io::Result<()> {
     // One byte more than the longest input, so that an extra byte is seen.
     let mut input = [0u8; LONGEST_INPUT + 1];
-    let n = io::read_full(STDIN_FILENO, &mut input);
+    let n = read_full(&mut rt.stdin(), &mut input)?;
     let mut text = [0u8; LISTING_ROOM];
     let listed = decoder::list(&input[..n], &mut text);
     match listed {
-        Listed::Text(k) => {
-            io::write_all(STDOUT_FILENO, &text[..k]);
-        }
-        Listed::Short => {}
+        Listed::Text(k) => rt.write_all(&text[..k]),
+        Listed::Short => Ok(()),
     }
+}
+
+// Reads until the buffer is full or the input ends, and returns how many bytes it put at the start.
+// Reads that come in pieces are joined.
+fn read_full<R: Read>(input: &mut R, buffer: &mut [u8]) -> io::Result<usize>
+    ensures within { IfOk result (λ n. n ≤ length buffer.new) }
+    ensures joined { IfOk result
+        (λ n. Consumes (R.remaining input.old) (R.remaining input.new) (take n buffer.new)) }
+    ensures ended { IfOk result (λ n. n < length buffer.new → IsAtEnd (R.remaining input.new)) }
+{
+    let mut done = 0;
+    while done < buffer.len() {
+        let n = input.read(&mut buffer[done..])?;
+        if n == 0 {
+            break;
+        }
+        done += n;
+    }
+    Ok(done)
 }

@@ -7,7 +7,7 @@ use machine::State;
 // FSR in every example that goes through it. IRP is 0, so this is also the byte's place in the file.
 const POINTER: u8 = 0xC2;
 
-#[derive(Drop)]
+#[derive(Clone, Copy)]
 pub struct Before {
     pub state: State,
     status: u8,

@@ -4,29 +4,40 @@ use crate::after::example;
 use crate::before::{direct, indirect};
 use crate::names::{INDF, REG};
 use decoder::Instruction;
+use std::io;
 
-pub fn bcf() {
+pub fn bcf(rt: &impl Print) -> io::Result<()> {
     // 1: FLAG_REG, 7
-    example(Instruction::Bcf(REG, 7), direct(0, 0, 0xC7), b"f");
+    example(rt, Instruction::Bcf(REG, 7), direct(0, 0, 0xC7), b"f")?;
     // 2: INDF, 3
-    example(Instruction::Bcf(INDF, 3), indirect(0x17, 0, 0x2F), b"WFI");
+    example(
+        rt,
+        Instruction::Bcf(INDF, 3),
+        indirect(0x17, 0, 0x2F),
+        b"WFI",
+    )
 }
 
-pub fn bsf() {
+pub fn bsf(rt: &impl Print) -> io::Result<()> {
     // 1: FLAG_REG, 7
-    example(Instruction::Bsf(REG, 7), direct(0, 0, 0x0A), b"f");
+    example(rt, Instruction::Bsf(REG, 7), direct(0, 0, 0x0A), b"f")?;
     // 2: INDF, 3
-    example(Instruction::Bsf(INDF, 3), indirect(0x17, 0, 0x20), b"WFI");
+    example(
+        rt,
+        Instruction::Bsf(INDF, 3),
+        indirect(0x17, 0, 0x20),
+        b"WFI",
+    )
 }
 
-pub fn btfsc() {
+pub fn btfsc(rt: &impl Print) -> io::Result<()> {
     // 1: FLAG, 4, which is xxx0 xxxx, to TRUE, and xxx1 xxxx, to FALSE. Each x is the opposite of the bit.
-    example(Instruction::Btfsc(REG, 4), direct(0, 0, 0xEF), b"P");
-    example(Instruction::Btfsc(REG, 4), direct(0, 0, 0x10), b"P");
+    example(rt, Instruction::Btfsc(REG, 4), direct(0, 0, 0xEF), b"P")?;
+    example(rt, Instruction::Btfsc(REG, 4), direct(0, 0, 0x10), b"P")
 }
 
-pub fn btfss() {
+pub fn btfss(rt: &impl Print) -> io::Result<()> {
     // 1: FLAG, 4, as for BTFSC: to FALSE, and to TRUE
-    example(Instruction::Btfss(REG, 4), direct(0, 0, 0xEF), b"P");
-    example(Instruction::Btfss(REG, 4), direct(0, 0, 0x10), b"P");
+    example(rt, Instruction::Btfss(REG, 4), direct(0, 0, 0xEF), b"P")?;
+    example(rt, Instruction::Btfss(REG, 4), direct(0, 0, 0x10), b"P")
 }

@@ -4,58 +4,64 @@ use crate::after::{example, program, word_of};
 use crate::before::only_w;
 use crate::names::{C, F, HIGH_LU_TABLE, MYREG, PCL, PD, THERE, Z};
 use decoder::Instruction;
+use std::io;
 
-pub fn addlw() {
-    example(Instruction::Addlw(0x15), only_w(0x10, 0), b"W");
-    example(Instruction::Addlw(MYREG), only_w(0x10, 0), b"W");
-    example(Instruction::Addlw(HIGH_LU_TABLE), only_w(0x10, 0), b"W");
+pub fn addlw(rt: &impl Print) -> io::Result<()> {
+    example(rt, Instruction::Addlw(0x15), only_w(0x10, 0), b"W")?;
+    example(rt, Instruction::Addlw(MYREG), only_w(0x10, 0), b"W")?;
+    example(rt, Instruction::Addlw(HIGH_LU_TABLE), only_w(0x10, 0), b"W")?;
     // 4: printed ADDLW MYREG again, with the address of PCL
-    example(Instruction::Addlw(PCL), only_w(0x10, 0), b"W");
+    example(rt, Instruction::Addlw(PCL), only_w(0x10, 0), b"W")
 }
 
-pub fn andlw() {
-    example(Instruction::Andlw(0x5F), only_w(0xA3, 0), b"W");
-    example(Instruction::Andlw(MYREG), only_w(0xA3, 0), b"W");
-    example(Instruction::Andlw(HIGH_LU_TABLE), only_w(0xA3, 0), b"W");
+pub fn andlw(rt: &impl Print) -> io::Result<()> {
+    example(rt, Instruction::Andlw(0x5F), only_w(0xA3, 0), b"W")?;
+    example(rt, Instruction::Andlw(MYREG), only_w(0xA3, 0), b"W")?;
+    example(rt, Instruction::Andlw(HIGH_LU_TABLE), only_w(0xA3, 0), b"W")
 }
 
-pub fn call() {
+pub fn call(rt: &impl Print) -> io::Result<()> {
     // CALL THERE
-    example(Instruction::Call(THERE), only_w(0, 0), b"TP");
+    example(rt, Instruction::Call(THERE), only_w(0, 0), b"TP")
 }
 
 // The watchdog's own counter and prescaler are outside the simulator.
-pub fn clrwdt() {
-    example(Instruction::Clrwdt, only_w(0, 0), b"tp");
+pub fn clrwdt(rt: &impl Print) -> io::Result<()> {
+    example(rt, Instruction::Clrwdt, only_w(0, 0), b"tp")
 }
 
-pub fn goto() {
+pub fn goto(rt: &impl Print) -> io::Result<()> {
     // GOTO THERE
-    example(Instruction::Goto(THERE), only_w(0, 0), b"P");
+    example(rt, Instruction::Goto(THERE), only_w(0, 0), b"P")
 }
 
-pub fn iorlw() {
-    example(Instruction::Iorlw(0x35), only_w(0x9A, Z), b"WZ");
+pub fn iorlw(rt: &impl Print) -> io::Result<()> {
+    example(rt, Instruction::Iorlw(0x35), only_w(0x9A, Z), b"WZ")?;
     // 2: printed 0x9F; 0x9A OR 0x37 is 0xBF
-    example(Instruction::Iorlw(MYREG), only_w(0x9A, Z), b"WZ");
-    example(Instruction::Iorlw(HIGH_LU_TABLE), only_w(0x9A, Z), b"WZ");
-    example(Instruction::Iorlw(0x00), only_w(0x00, 0), b"WZ");
+    example(rt, Instruction::Iorlw(MYREG), only_w(0x9A, Z), b"WZ")?;
+    example(
+        rt,
+        Instruction::Iorlw(HIGH_LU_TABLE),
+        only_w(0x9A, Z),
+        b"WZ",
+    )?;
+    example(rt, Instruction::Iorlw(0x00), only_w(0x00, 0), b"WZ")
 }
 
-pub fn movlw() {
-    example(Instruction::Movlw(0x5A), only_w(0, 0), b"W");
-    example(Instruction::Movlw(MYREG), only_w(0x10, 0), b"W");
-    example(Instruction::Movlw(HIGH_LU_TABLE), only_w(0x10, 0), b"W");
+pub fn movlw(rt: &impl Print) -> io::Result<()> {
+    example(rt, Instruction::Movlw(0x5A), only_w(0, 0), b"W")?;
+    example(rt, Instruction::Movlw(MYREG), only_w(0x10, 0), b"W")?;
+    example(rt, Instruction::Movlw(HIGH_LU_TABLE), only_w(0x10, 0), b"W")
 }
 
-pub fn retfie() {
+pub fn retfie(rt: &impl Print) -> io::Result<()> {
     // to the address that was on top of the stack
-    example(Instruction::Retfie, only_w(0, 0).called(), b"PG");
+    example(rt, Instruction::Retfie, only_w(0, 0).called(), b"PG")
 }
 
 // CALL TABLE, ADDWF PCL (printed PC) and RETLW k8, of two cycles each. Here HERE is 0 and TABLE 2, and k1
 // to k9 are 0xA1 to 0xA9.
-pub fn retlw() {
+pub fn retlw(rt: &impl Print) -> io::Result<()> {
     let k8 = word_of(Instruction::Retlw(0xA8));
     let words = [
         word_of(Instruction::Call(0x002)),
@@ -71,32 +77,37 @@ pub fn retlw() {
         k8,
         word_of(Instruction::Retlw(0xA9)),
     ];
-    program(k8, &words, 3, only_w(0x07, 0).at(0), b"WP");
+    program(rt, k8, &words, 3, only_w(0x07, 0).at(0), b"WP")
 }
 
-pub fn return_to_caller() {
+pub fn return_to_caller(rt: &impl Print) -> io::Result<()> {
     // to the address that was on top of the stack
-    example(Instruction::Return, only_w(0, 0).called(), b"P");
+    example(rt, Instruction::Return, only_w(0, 0).called(), b"P")
 }
 
 // The example prints no values: its operation's are shown, and that the run ends by it, answer 1. PD is
 // set before.
-pub fn sleep() {
-    example(Instruction::Sleep, only_w(0, PD), b"tpA");
+pub fn sleep(rt: &impl Print) -> io::Result<()> {
+    example(rt, Instruction::Sleep, only_w(0, PD), b"tpA")
 }
 
-pub fn sublw() {
+pub fn sublw(rt: &impl Print) -> io::Result<()> {
     // 1: 0x02
-    example(Instruction::Sublw(0x02), only_w(0x01, Z), b"WCZ");
-    example(Instruction::Sublw(0x02), only_w(0x02, 0), b"WCZ");
-    example(Instruction::Sublw(0x02), only_w(0x03, Z + C), b"WCZ");
+    example(rt, Instruction::Sublw(0x02), only_w(0x01, Z), b"WCZ")?;
+    example(rt, Instruction::Sublw(0x02), only_w(0x02, 0), b"WCZ")?;
+    example(rt, Instruction::Sublw(0x02), only_w(0x03, Z + C), b"WCZ")?;
     // 2: MYREG
-    example(Instruction::Sublw(MYREG), only_w(0x10, 0), b"WC");
+    example(rt, Instruction::Sublw(MYREG), only_w(0x10, 0), b"WC")
 }
 
-pub fn xorlw() {
-    example(Instruction::Xorlw(0xAF), only_w(0xB5, Z), b"WZ");
+pub fn xorlw(rt: &impl Print) -> io::Result<()> {
+    example(rt, Instruction::Xorlw(0xAF), only_w(0xB5, Z), b"WZ")?;
     // 2: printed 0x18; 0xAF XOR 0x37 is 0x98
-    example(Instruction::Xorlw(MYREG), only_w(0xAF, Z), b"WZ");
-    example(Instruction::Xorlw(HIGH_LU_TABLE), only_w(0xAF, Z), b"WZ");
+    example(rt, Instruction::Xorlw(MYREG), only_w(0xAF, Z), b"WZ")?;
+    example(
+        rt,
+        Instruction::Xorlw(HIGH_LU_TABLE),
+        only_w(0xAF, Z),
+        b"WZ",
+    )
 }

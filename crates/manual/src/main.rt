@@ -2,6 +2,8 @@
 // order of its pages (documents 001 and 003). OPTION and TRIS have a page there, but no example. The file
 // stdout has what must be printed, typed from the manual. Where a printed result contradicts the
 // operation, the operation decides (document 01); a comment at the example says so.
+#![tactic(auto)]
+
 mod after;
 mod before;
 mod bit_oriented;
@@ -9,41 +11,43 @@ mod byte_oriented;
 mod literal_and_control;
 mod names;
 
-fn main() {
-    byte_oriented::clrf_status();
-    literal_and_control::addlw();
-    byte_oriented::addwf();
-    literal_and_control::andlw();
-    byte_oriented::andwf();
-    bit_oriented::bcf();
-    bit_oriented::bsf();
-    bit_oriented::btfsc();
-    bit_oriented::btfss();
-    literal_and_control::call();
-    byte_oriented::clrf();
-    byte_oriented::clrw();
-    literal_and_control::clrwdt();
-    byte_oriented::comf();
-    byte_oriented::decf();
-    byte_oriented::decfsz();
-    literal_and_control::goto();
-    byte_oriented::incf();
-    byte_oriented::incfsz();
-    literal_and_control::iorlw();
-    byte_oriented::iorwf();
-    literal_and_control::movlw();
-    byte_oriented::movf();
-    byte_oriented::movwf();
-    byte_oriented::nop();
-    literal_and_control::retfie();
-    literal_and_control::retlw();
-    literal_and_control::return_to_caller();
-    byte_oriented::rlf();
-    byte_oriented::rrf();
-    literal_and_control::sleep();
-    literal_and_control::sublw();
-    byte_oriented::subwf();
-    byte_oriented::swapf();
-    literal_and_control::xorlw();
-    byte_oriented::xorwf();
+use std::io;
+
+fn main(rt: HostRuntime) -> io::Result<()> {
+    byte_oriented::clrf_status(&rt)?;
+    literal_and_control::addlw(&rt)?;
+    byte_oriented::addwf(&rt)?;
+    literal_and_control::andlw(&rt)?;
+    byte_oriented::andwf(&rt)?;
+    bit_oriented::bcf(&rt)?;
+    bit_oriented::bsf(&rt)?;
+    bit_oriented::btfsc(&rt)?;
+    bit_oriented::btfss(&rt)?;
+    literal_and_control::call(&rt)?;
+    byte_oriented::clrf(&rt)?;
+    byte_oriented::clrw(&rt)?;
+    literal_and_control::clrwdt(&rt)?;
+    byte_oriented::comf(&rt)?;
+    byte_oriented::decf(&rt)?;
+    byte_oriented::decfsz(&rt)?;
+    literal_and_control::goto(&rt)?;
+    byte_oriented::incf(&rt)?;
+    byte_oriented::incfsz(&rt)?;
+    literal_and_control::iorlw(&rt)?;
+    byte_oriented::iorwf(&rt)?;
+    literal_and_control::movlw(&rt)?;
+    byte_oriented::movf(&rt)?;
+    byte_oriented::movwf(&rt)?;
+    byte_oriented::nop(&rt)?;
+    literal_and_control::retfie(&rt)?;
+    literal_and_control::retlw(&rt)?;
+    literal_and_control::return_to_caller(&rt)?;
+    byte_oriented::rlf(&rt)?;
+    byte_oriented::rrf(&rt)?;
+    literal_and_control::sleep(&rt)?;
+    literal_and_control::sublw(&rt)?;
+    byte_oriented::subwf(&rt)?;
+    byte_oriented::swapf(&rt)?;
+    literal_and_control::xorlw(&rt)?;
+    byte_oriented::xorwf(&rt)
 }
