@@ -101,8 +101,6 @@ def edit(text, own):
 
     return "\n".join(TOKEN.sub(word, l) if l.startswith(("old:", "new:")) else l for l in text.split("\n"))
 
-    return "\n".join(line(l) for l in text.split("\n"))
-
 
 def page(text, own):
     def quoted(m):
