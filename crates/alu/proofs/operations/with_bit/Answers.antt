@@ -1,3 +1,4 @@
+-- A bit of a byte is set as `with_bit` sets it. Assumes nothing.
 use Rattle.std.proofs.Common.{◌%◌, arith}
 use Rattle.alu.proofs.Bytes.{set_bit}
 use Rattle.alu.proofs.operations.with_bit.Goals as goal

@@ -1,3 +1,4 @@
+-- XOR of two bytes goes bit by bit, as `xor_of` does. Assumes nothing.
 use Rattle.std.proofs.Common.{arith}
 use Rattle.alu.proofs.Bytes.{xor_bytes}
 use Rattle.alu.proofs.operations.xor.Goals as goal
