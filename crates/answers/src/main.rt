@@ -4,7 +4,7 @@
 
 mod runs;
 
-use decoder::{Decoded, Dest, Disassembled, Encoded, Instruction, Listed};
+use decoder::{Dest, Instruction, Refusal};
 use std::io;
 
 fn main(rt: HostRuntime) -> io::Result<()> {
@@ -85,37 +85,29 @@ fn lists_to_a_short_buffer(rt: &impl Print) -> io::Result<()> {
     let input = [2, 0, 1, 0, 0x64, 0];
     let mut text = [b'.'; 20];
     let answer = decoder::list(&input, &mut text);
-    show(rt, listed_or_number(answer))?;
+    show(rt, length_or_number(answer))?;
     rt.write_all(&text)?;
     end_line(rt)
 }
 
-fn decoded_or_number(answer: Decoded) -> u64 {
+fn decoded_or_number(answer: Result<Instruction, Refusal>) -> u64 {
     match answer {
-        Decoded::Is(_) => 0,
-        Decoded::Undefined => 6,
+        Ok(_) => 0,
+        Err(refusal) => u64::from(u8::from(refusal)),
     }
 }
 
-fn word_or_number(answer: Encoded) -> u64 {
+fn word_or_number(answer: Result<u16, Refusal>) -> u64 {
     match answer {
-        Encoded::Word(word) => word as u64,
-        Encoded::TooLarge => 10,
+        Ok(word) => word as u64,
+        Err(refusal) => u64::from(u8::from(refusal)),
     }
 }
 
-fn length_or_number(answer: Disassembled) -> u64 {
+fn length_or_number(answer: Result<usize, Refusal>) -> u64 {
     match answer {
-        Disassembled::Text(n) => n as u64,
-        Disassembled::Undefined => 6,
-        Disassembled::Short => 11,
-    }
-}
-
-fn listed_or_number(answer: Listed) -> u64 {
-    match answer {
-        Listed::Text(n) => n as u64,
-        Listed::Short => 70,
+        Ok(n) => n as u64,
+        Err(refusal) => u64::from(u8::from(refusal)),
     }
 }
 

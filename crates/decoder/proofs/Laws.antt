@@ -8,7 +8,7 @@ use lib.Dec.{ltb}
 use lib.ListN.{length, length-append, drop}
 use borrow.Author.Tests.{ltb-true, ltb-false}
 use Rattle.decoder.specs.declared.instruction.Instruction.{Instruction}
-use Rattle.decoder.specs.declared.listing.Listed.TheVariants.{Text}
+use Rattle.std.specs.Prelude.{Ok}
 use Rattle.decoder.specs.Table.{Answer, decode_of, x_of, undefined_of}
 use Rattle.decoder.specs.Table.Answer.{gives, refuses}
 use Rattle.decoder.specs.Printed.{printed_of, fit_of, InRange, word_of, encode_of}
@@ -86,7 +86,7 @@ prefix n text before after e =
     let whole : after ≡ text ++ drop (length text) before = ap (λ (l : Left). l.bytes) e in
     rw whole (omega (arith, length-append text (drop (length text) before)))
 
-pub listing_within : (input before : List ℕ) (n : ℕ) (after : List ℕ) → Lists input before (Text n) after → n ≤ length after
+pub listing_within : (input before : List ℕ) (n : ℕ) (after : List ℕ) → Lists input before (Ok n) after → n ≤ length after
 unfolding list_of
 listing_within input before n after e = go (ltb (length before) 204800) e
   where

@@ -12,7 +12,7 @@ use Rattle.decoder.specs.Printed.{printed_of, bit_of}
 use Rattle.decoder.specs.Text.{ascii, hex, operand_text, text_of}
 use Rattle.decoder.proofs.Writing.{hex_length}
 
-mnemonic_length : (i : Instruction) → length (ascii (printed_of i).mnemonic) ≤ 6
+pub mnemonic_length : (i : Instruction) → length ((printed_of i).mnemonic) ≤ 6
 mnemonic_length (Addwf f d) = lit≤ tt
 mnemonic_length (Andwf f d) = lit≤ tt
 mnemonic_length (Clrf f) = lit≤ tt
@@ -70,4 +70,4 @@ unfolding text_of
 text_length i =
     let m = mnemonic_length i in
     let o = operand_length (printed_of i).operands in
-    rw (length-append (ascii (printed_of i).mnemonic) (operand_text (printed_of i).operands)) (omega arith)
+    rw (length-append ((printed_of i).mnemonic) (operand_text (printed_of i).operands)) (omega arith)

@@ -1,51 +1,51 @@
--- The promises of the decoder layer's four calls. Each answer that is an enum is read by document 01's numbers: 6 for
--- an undefined word, 10 for an operand too large, 11 for a buffer too short; and 70, ours, for a listing's buffer too
--- short. Each promise is one equation, for every input, and fixes the answer and every lent byte. Assumes nothing.
-use Rattle.std.specs.Prelude.{◌≡◌, List, ℕ}
+-- The promises of the decoder layer's four calls. Each answer is read by document 01's numbers: 6 for an undefined word,
+-- 10 for an operand too large, 11 for a buffer too short; and 70, ours, for a listing's buffer too short. Each promise is
+-- one equation, for every input, and fixes the answer and every lent byte. Assumes nothing.
+use Rattle.std.specs.Prelude.{◌≡◌, List, ℕ, Result, Ok, Err}
 use Rattle.decoder.specs.declared.instruction.Instruction.{Instruction}
-use Rattle.decoder.specs.declared.instruction.Decoded.{Decoded}
-use Rattle.decoder.specs.declared.instruction.Decoded.TheVariants as decoder
-use Rattle.decoder.specs.declared.encoding.Encoded.{Encoded}
-use Rattle.decoder.specs.declared.encoding.Encoded.TheVariants as encoder
-use Rattle.decoder.specs.declared.text.Disassembled.{Disassembled}
-use Rattle.decoder.specs.declared.text.Disassembled.TheVariants as disassembler
-use Rattle.decoder.specs.declared.listing.Listed.{Listed}
-use Rattle.decoder.specs.declared.listing.Listed.TheVariants as lister
+use Rattle.decoder.specs.declared.refusal.Refusal.{Refusal}
+use Rattle.decoder.specs.declared.refusal.Refusal.TheVariants.{Undefined, TooLarge, ShortText, ShortListing}
 use Rattle.decoder.specs.Table.{Answer, decode_of}
 use Rattle.decoder.specs.Table.Answer.{gives, refuses}
 use Rattle.decoder.specs.Printed.{encode_of}
-use Rattle.decoder.specs.Text.{Left, disassemble_of}
+use Rattle.decoder.specs.Text.{ascii, Left, disassemble_of}
 use Rattle.decoder.specs.Listing.{list_of}
 
--- decode
-abbrev pub decoded : Decoded → Answer Instruction
-decoded (decoder.Is i) = gives i
-decoded decoder.Undefined = refuses 6
+-- A refusal's number.
+abbrev pub number_of : Refusal → ℕ
+number_of Undefined = 6
+number_of TooLarge = 10
+number_of ShortText = 11
+number_of ShortListing = 70
 
-abbrev pub Decodes : ℕ → Decoded → Type 0
-Decodes word r = decoded r ≡ decode_of word
+-- What a refusal says of itself.
+abbrev pub sentence_of : Refusal → List ℕ
+sentence_of Undefined = ascii "the word is none of Table 29-1's"
+sentence_of TooLarge = ascii "an operand is too large for its field"
+sentence_of ShortText = ascii "the buffer is too short for a text"
+sentence_of ShortListing = ascii "the buffer is too short for a listing"
+
+-- What a call answers, with the number in the refusal's place.
+abbrev pub answer_of : {A : Type 0} → Result A Refusal → Answer A
+answer_of (Ok a) = gives a
+answer_of (Err r) = refuses (number_of r)
+
+-- decode
+abbrev pub Decodes : ℕ → Result Instruction Refusal → Type 0
+Decodes word r = answer_of r ≡ decode_of word
 
 -- encode
-abbrev pub encoded : Encoded → Answer ℕ
-encoded (encoder.Word w) = gives w
-encoded encoder.TooLarge = refuses 10
+abbrev pub Encodes : Instruction → Result ℕ Refusal → Type 0
+Encodes i r = answer_of r ≡ encode_of i
 
-abbrev pub Encodes : Instruction → Encoded → Type 0
-Encodes i r = encoded r ≡ encode_of i
+-- What a call that writes into a lent buffer leaves: its answer, and the lent bytes after it.
+abbrev pub left_of : Result ℕ Refusal → List ℕ → Left
+left_of r after = record { answer = answer_of r; bytes = after }
 
 -- disassemble: `before` and `after` are the lent bytes
-abbrev pub disassembly : Disassembled → List ℕ → Left
-disassembly (disassembler.Text n) after = record { answer = gives n; bytes = after }
-disassembly disassembler.Undefined after = record { answer = refuses 6; bytes = after }
-disassembly disassembler.Short after = record { answer = refuses 11; bytes = after }
-
-abbrev pub Disassembles : ℕ → List ℕ → Disassembled → List ℕ → Type 0
-Disassembles word before r after = disassembly r after ≡ disassemble_of word before
+abbrev pub Disassembles : ℕ → List ℕ → Result ℕ Refusal → List ℕ → Type 0
+Disassembles word before r after = left_of r after ≡ disassemble_of word before
 
 -- list
-abbrev pub listed : Listed → List ℕ → Left
-listed (lister.Text n) after = record { answer = gives n; bytes = after }
-listed lister.Short after = record { answer = refuses 70; bytes = after }
-
-abbrev pub Lists : List ℕ → List ℕ → Listed → List ℕ → Type 0
-Lists input before r after = listed r after ≡ list_of input before
+abbrev pub Lists : List ℕ → List ℕ → Result ℕ Refusal → List ℕ → Type 0
+Lists input before r after = left_of r after ≡ list_of input before

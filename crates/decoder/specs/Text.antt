@@ -1,20 +1,13 @@
 -- An instruction's text and a word's disassembly: document 01, "The listing" and the end of "Run answers".
 -- Assumes nothing.
 use Rattle.std.specs.Prelude.{cond, List, [], ◌∷◌, ◌++◌, ℕ, zero, suc, ◌/◌, ◌%◌, get_or, length, drop, ltb}
-use Prim.Native.String.{String}
-use Prim.Native.String as string
-use Prim.Native.Char.{code}
 use Rattle.decoder.specs.declared.instruction.Instruction.{Instruction}
 use Rattle.decoder.specs.declared.instruction.Operands.{Operands}
 use Rattle.decoder.specs.declared.instruction.Operands.TheVariants.{None, F, FD, FB, K8, K11}
 use Rattle.decoder.specs.Table.{Answer, decode_of}
 use Rattle.decoder.specs.Table.Answer.{gives, refuses}
 use Rattle.decoder.specs.Printed.{printed_of, bit_of}
-
--- A text as the numbers of its characters.
-abbrev pub ascii : String → List ℕ
-ascii string.[] = []
-ascii (string.◌∷◌ c s) = code c ∷ ascii s
+pub use Rattle.decoder.specs.Printed.{ascii}
 
 -- A digit, in capitals.
 unfoldable pub digit : ℕ → ℕ
@@ -37,7 +30,7 @@ operand_text (K11 k) = ascii " 0x" ++ hex 3 k
 
 -- The mnemonic, then the operands if any.
 unfoldable pub text_of : Instruction → List ℕ
-text_of i = ascii (printed_of i).mnemonic ++ operand_text (printed_of i).operands
+text_of i = (printed_of i).mnemonic ++ operand_text (printed_of i).operands
 
 -- What a call that writes into a lent buffer leaves: its answer, and the buffer's bytes.
 pub record Left : Type 0 where

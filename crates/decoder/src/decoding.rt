@@ -6,10 +6,11 @@ ghost use Rattle.std.specs.Prelude.{◌≡◌, ◌<◌, ◌%◌, ◌/◌};
 ghost use Rattle.decoder.specs.Table.{field_f, field_d, field_b, field_k8, field_k11};
 ghost use Rattle.decoder.specs.Answers.{Decodes};
 
-use crate::instruction::{Decoded, Dest, Instruction};
+use crate::instruction::{Dest, Instruction};
+use crate::refusal::Refusal;
 
 // What a word means: Table 29-1, for every u16. Above 0x3FFF a word is undefined.
-pub fn decode(word: u16) -> Decoded
+pub fn decode(word: u16) -> Result<Instruction, Refusal>
     ensures { Decodes word result }
 {
     let f = file_of(word);
@@ -20,7 +21,7 @@ pub fn decode(word: u16) -> Decoded
     let top = word / 256;
     if top == 0 {
         if word >= 128 {
-            return Decoded::Is(Instruction::Movwf(f));
+            return Ok(Instruction::Movwf(f));
         }
         return lowest(word);
     }
@@ -89,14 +90,14 @@ pub fn decode(word: u16) -> Decoded
         0x3D => Instruction::Sublw(k),
         0x3E => Instruction::Addlw(k),
         0x3F => Instruction::Addlw(k),
-        _ => return Decoded::Undefined,
+        _ => return Err(Refusal::Undefined),
     };
-    Decoded::Is(i)
+    Ok(i)
 }
 
 // 0x0000 to 0x007F: the words with no operand.
 #[tactic(auto, using(crate::proofs::Undefined::no_low_row), unfolding(crate::specs::Table::decode_of, crate::specs::Table::rows_of, crate::specs::Table::rows, crate::specs::Table::fixed))]
-fn lowest(word: u16) -> Decoded
+fn lowest(word: u16) -> Result<Instruction, Refusal>
     requires { word < 128 }
     ensures { Decodes word result }
 {
@@ -109,13 +110,13 @@ fn lowest(word: u16) -> Decoded
         0x0009 => Instruction::Retfie,
         0x0063 => Instruction::Sleep,
         0x0064 => Instruction::Clrwdt,
-        _ => return Decoded::Undefined,
+        _ => return Err(Refusal::Undefined),
     };
-    Decoded::Is(i)
+    Ok(i)
 }
 
 // 0x0100 to 0x01FF: CLRW, whose lower seven bits are x, and CLRF.
-fn clear(word: u16, f: u8) -> Decoded
+fn clear(word: u16, f: u8) -> Result<Instruction, Refusal>
     requires { (word / 256 ≡ 1) × (f ≡ field_f word) }
     ensures { Decodes word result }
 {
@@ -124,7 +125,7 @@ fn clear(word: u16, f: u8) -> Decoded
     } else {
         Instruction::Clrf(f)
     };
-    Decoded::Is(i)
+    Ok(i)
 }
 
 // The fields of a word.
@@ -156,5 +157,5 @@ fn literal_of(word: u16) -> u8
 fn address_of(word: u16) -> usize
     ensures { result ≡ field_k11 word }
 {
-    (word % 2048) as usize
+    usize::from(word % 2048)
 }

@@ -1,94 +1,55 @@
 // Instructions to words. The x bits are written as 0, and an operand that its field does not hold is
 // refused. An instruction holds the operands of its row and no others, so there are none to ignore.
-ghost use Rattle.std.specs.Prelude.{◌≡◌, ◌<◌};
-ghost use Rattle.decoder.specs.Printed.{bit_of};
-ghost use Rattle.decoder.specs.Inner.{fields_of, placing};
-ghost use Rattle.decoder.specs.Answers.{Encodes};
+ghost use Rattle.std.specs.Prelude.{◌≡◌, cond, leb};
+ghost use Rattle.decoder.specs.Table.Answer.{gives, refuses};
+ghost use Rattle.decoder.specs.Inner.{fields_of};
+ghost use Rattle.decoder.specs.Answers.{Encodes, answer_of};
 
-use crate::instruction::{Dest, Instruction, Operands};
+use crate::instruction::{Instruction, Operands};
+use crate::refusal::Refusal;
 use crate::table::printed;
 
 // The largest operands that fit their fields. A byte k always does.
-const LAST_F: u8 = 127;
+const LAST_F: u16 = 127;
 
-const LAST_B: u8 = 7;
+const LAST_B: u16 = 7;
 
-const LAST_K11: usize = 2047;
-
-#[derive(Clone, Copy)]
-pub enum Encoded {
-    Word(u16),
-    // An operand above its field: number 10.
-    TooLarge,
-}
-
-// The operands in their places of a word, or that one does not fit.
-#[derive(Clone, Copy)]
-pub(crate) enum Placed {
-    Bits(u16),
-    TooLarge,
-}
+const LAST_K11: u16 = 2047;
 
 // The instruction's word.
-pub fn encode(i: Instruction) -> Encoded
+pub fn encode(i: Instruction) -> Result<u16, Refusal>
     ensures { Encodes i result }
 {
     let row = printed(i);
-    let word = row.2;
-    let operands = row.3;
-    let p = place(operands);
-    match p {
-        Placed::Bits(bits) => Encoded::Word(word + bits),
-        Placed::TooLarge => Encoded::TooLarge,
-    }
+    let bits = place(row.operands)?;
+    Ok(row.word + bits)
 }
 
+// The operands in their places of a word.
 #[tactic(auto, unfolding(crate::specs::Inner::fields_of))]
-fn place(operands: Operands) -> Placed
-    ensures { placing result ≡ fields_of operands }
+fn place(operands: Operands) -> Result<u16, Refusal>
+    ensures { answer_of result ≡ fields_of operands }
 {
     match operands {
-        Operands::None => Placed::Bits(0),
-        Operands::F(f) => {
-            if f <= LAST_F {
-                Placed::Bits(f as u16)
-            } else {
-                Placed::TooLarge
-            }
-        }
-        Operands::FD(f, d) => {
-            if f <= LAST_F {
-                Placed::Bits(0x80 * dest_bit(d) + f as u16)
-            } else {
-                Placed::TooLarge
-            }
-        }
+        Operands::None => Ok(0),
+        Operands::F(f) => fit(usize::from(f), LAST_F),
+        Operands::FD(f, d) => Ok(0x80 * u16::from(d) + fit(usize::from(f), LAST_F)?),
         Operands::FB(f, b) => {
-            if f <= LAST_F {
-                if b <= LAST_B {
-                    return Placed::Bits(0x80 * b as u16 + f as u16);
-                }
-                return Placed::TooLarge;
-            }
-            Placed::TooLarge
+            let f = fit(usize::from(f), LAST_F)?;
+            let b = fit(usize::from(b), LAST_B)?;
+            Ok(0x80 * b + f)
         }
-        Operands::K8(k) => Placed::Bits(k as u16),
-        Operands::K11(k) => {
-            if k <= LAST_K11 {
-                Placed::Bits(k as u16)
-            } else {
-                Placed::TooLarge
-            }
-        }
+        Operands::K8(k) => Ok(u16::from(k)),
+        Operands::K11(k) => fit(k, LAST_K11),
     }
 }
 
-// d is 0 for W and 1 for the file register.
-pub(crate) fn dest_bit(d: Dest) -> u16
-    ensures { (result ≡ bit_of d) × (result < 2) }
+// An operand, where its field holds it.
+fn fit(operand: usize, last: u16) -> Result<u16, Refusal>
+    ensures { answer_of result ≡ cond (leb operand last) (gives operand) (refuses 10) }
 {
-    match d {
-        Dest::W => 0,
-        Dest::File => 1,
+    if operand > usize::from(last) {
+        return Err(Refusal::TooLarge);
     }
+    Ok(operand as u16)
 }

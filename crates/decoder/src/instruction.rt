@@ -1,14 +1,26 @@
 // An instruction is one value with its operands inside: Table 29-1's 35 rows, in the table's order. f, b
 // and a byte k are u8; the eleven-bit k of CALL and GOTO is part of an address, and usize.
+ghost use Rattle.std.specs.Prelude.{◌≡◌};
+ghost use Rattle.decoder.specs.Printed.{bit_of};
 
 // Where a result goes: d.
-#[derive(Clone, Copy)]
+#[derive(Clone, Copy, Debug, PartialEq, Eq, Hash)]
 pub enum Dest {
     W,
     File,
 }
 
-#[derive(Clone, Copy)]
+// d's bit: 0 for W and 1 for the file register.
+impl From<Dest> for u16 {
+    ghost from_gives = { λ d bit. bit ≡ bit_of d };
+
+    fn from(d: Dest) -> u16 {
+        d as u16
+    }
+}
+
+// No Hash: over 35 cases it adds some 15 s to the check from nothing, and no caller asks for it.
+#[derive(Clone, Copy, Debug, PartialEq, Eq)]
 pub enum Instruction {
     // byte-oriented file register operations
     Addwf(u8, Dest),
@@ -50,16 +62,8 @@ pub enum Instruction {
     Xorlw(u8),
 }
 
-// What a word means.
-#[derive(Clone, Copy)]
-pub enum Decoded {
-    Is(Instruction),
-    // None of the rows: number 6.
-    Undefined,
-}
-
 // The operands of a row, by the table's letters.
-#[derive(Clone, Copy)]
+#[derive(Clone, Copy, Debug, PartialEq, Eq, Hash)]
 pub enum Operands {
     None,
     F(u8),

@@ -6,11 +6,13 @@ mod decoding;
 mod encoding;
 mod instruction;
 mod listing;
+mod refusal;
 mod table;
 mod text;
 
 pub use decoding::decode;
-pub use encoding::{Encoded, encode};
-pub use instruction::{Decoded, Dest, Instruction, Operands};
-pub use listing::{LISTING_ROOM, LONGEST_INPUT, Listed, list};
-pub use text::{Disassembled, TEXT_ROOM, disassemble};
+pub use encoding::encode;
+pub use instruction::{Dest, Instruction, Operands};
+pub use listing::{LISTING_ROOM, LONGEST_INPUT, list};
+pub use refusal::Refusal;
+pub use text::{TEXT_ROOM, disassemble};

@@ -6,7 +6,7 @@
 ghost use Rattle.std.specs.Prelude.{◌≤◌, ◌<◌, length, take, IfOk};
 ghost use Rattle.std.specs.Io.KnownBytes.{Consumes, IsAtEnd};
 
-use decoder::{LISTING_ROOM, LONGEST_INPUT, Listed};
+use decoder::{LISTING_ROOM, LONGEST_INPUT};
 use std::io;
 use std::io::Read;
 
@@ -15,10 +15,9 @@ fn main(rt: HostRuntime) -> io::Result<()> {
     let mut input = [0u8; LONGEST_INPUT + 1];
     let n = read_full(&mut rt.stdin(), &mut input)?;
     let mut text = [0u8; LISTING_ROOM];
-    let listed = decoder::list(&input[..n], &mut text);
-    match listed {
-        Listed::Text(k) => rt.write_all(&text[..k]),
-        Listed::Short => Ok(()),
+    match decoder::list(&input[..n], &mut text) {
+        Ok(k) => rt.write_all(&text[..k]),
+        Err(_) => Ok(()),
     }
 }
 

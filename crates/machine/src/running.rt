@@ -8,7 +8,6 @@ ghost use Rattle.machine.specs.Inner.{Within, state_of, shown, expected, skipped
 use crate::control::refused;
 use crate::state::{Core, State, after, entries_fit};
 use crate::step::{End, Stepped, step};
-use decoder::Decoded;
 
 // A run's result: the state after it, the instructions done, their cycles, and document 01's number.
 #[derive(Clone, Copy)]
@@ -130,10 +129,9 @@ fn turn(c: Core, stack: &mut [u16], words: &[u16], file: &mut [u8]) -> Stepped
     if a >= words.len() {
         return refused(c, 5);
     }
-    let d = decoder::decode(words[a]);
-    match d {
-        Decoded::Is(i) => step(c, stack, file, i),
-        Decoded::Undefined => refused(c, 6),
+    match decoder::decode(words[a]) {
+        Ok(i) => step(c, stack, file, i),
+        Err(_) => refused(c, 6),
     }
 }
 

@@ -2,7 +2,7 @@
 // instruction's text, the values, and the cycles.
 use crate::before::Before;
 use crate::names::{FSR, INTCON, STATUS};
-use decoder::{Encoded, Instruction};
+use decoder::Instruction;
 use machine::State;
 use std::io;
 
@@ -58,8 +58,8 @@ pub fn program(
 // The instruction's word. None of the examples' operands is too large.
 pub fn word_of(i: Instruction) -> u16 {
     match decoder::encode(i) {
-        Encoded::Word(word) => word,
-        Encoded::TooLarge => 0x3FFF,
+        Ok(word) => word,
+        Err(_) => 0x3FFF,
     }
 }
 
@@ -118,7 +118,7 @@ fn letter(shown: &[u8], i: usize) -> u8 {
 // The text in 14 columns: the longest has 13.
 fn write_text(rt: &impl Print, word: u16) -> io::Result<()> {
     let mut text = [b' '; 14];
-    decoder::disassemble(word, &mut text);
+    let _ = decoder::disassemble(word, &mut text);
     rt.write_all(&text)
 }
 

@@ -4,7 +4,7 @@ use Rattle.decoder.proofs.Laws.{listing_within}
 use Rattle.listing.proofs.main.Goals as goal
 
 pub slice_bounds-text-end : goal.slice_bounds-text-end
-slice_bounds-text-end c = listing_within _ _ _ _ c.in-Text.ensures
+slice_bounds-text-end c = listing_within _ _ _ _ c.in-Ok.ensures
 
 pub slice_bounds-write_all-end : goal.slice_bounds-write_all-end
-slice_bounds-write_all-end c = sym (length-take-le _ _ (listing_within _ _ _ _ c.in-Text.ensures))
+slice_bounds-write_all-end c = sym (length-take-le _ _ (listing_within _ _ _ _ c.in-Ok.ensures))

@@ -1,20 +1,21 @@
 -- `put_lines` writes one line more. Assumes nothing.
-use Rattle.std.proofs.Common.{arith, add-one}
-use Rattle.decoder.specs.Listing.{lines_of}
-use Rattle.decoder.proofs.Writing.{wrote_none, wrote_both, wrote_length}
+use Rattle.std.proofs.Common.{◌≡◌, ◌∙◌, [], get_or, add-one, arith}
+use Rattle.decoder.specs.Inner.{word_in, lines_in}
 use Rattle.decoder.proofs.Lines.{lines_length}
+use Rattle.decoder.proofs.Writing.{wrote_none, wrote_more}
 use Rattle.decoder.proofs.listing.put_lines.Goals as goal
 
-pub loop-i-init : goal.loop-i-init
-unfolding lines_of
-loop-i-init c = (omega arith, wrote_none _ _)
+pub loop-address-init : goal.loop-address-init
+unfolding lines_in
+loop-address-init c = wrote_none _
 
-pub put_line-at-requires : goal.put_line-at-requires
-put_line-at-requires c =
-    let written = c.loop-i.invariant.1 in
-    omega (arith, written.place, wrote_length written, lines_length c.loop-i.i c.args.input.now)
+pub put-end-requires : goal.put-end-requires
+put-end-requires c =
+    omega (arith, c.loop-address.invariant.place, lines_length c.loop-address.address c.args.words.now, c.deref.ensures.1, c.loop-address.auto.out)
 
-pub loop-i-preserved : goal.loop-i-preserved
-unfolding lines_of
-loop-i-preserved c =
-    (omega arith, rw (add-one c.loop-i.i, ← c.number_at-word.ensures.0) (wrote_both c.loop-i.invariant.1 c.put_line-at.ensures))
+pub loop-address-preserved : goal.loop-address-preserved
+unfolding lines_in
+loop-address-preserved c =
+    let word : c.from_le_bytes.result ≡ word_in (get_or c.args.words.now c.loop-address.address []) = omega (arith, c.from_le_bytes.ensures) in
+    let text = c.as_bytes.ensures.value ∙ c.deref.ensures.0 ∙ c.line_of-line.ensures in
+    rw (add-one c.loop-address.address, ← word) (wrote_more _ _ _ _ _ _ _ c.loop-address.invariant (rw text at c.put-end.ensures))

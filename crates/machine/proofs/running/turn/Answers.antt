@@ -11,14 +11,12 @@ returns-then-a-words c = rw (c.refused.ensures, le-ltb _ _ c.if-a-words.true)
 
 pub step-requires : goal.step-requires
 step-requires c =
-    let word = rw c.in-Is.is at c.decode-d.ensures in
-    (c.requires.1, c.requires.0, c.requires.2, operands_in_range _ _ (sym word))
+    (c.requires.1, c.requires.0, c.requires.2, operands_in_range _ _ (sym c.in-Ok.ensures))
 
-pub returns-in-Is : goal.returns-in-Is
+pub returns-in-Ok : goal.returns-in-Ok
 unfolding step_of
-returns-in-Is c = rw (lt-ltb _ _ c.if-a-words.false, ← c.decode-d.ensures, c.in-Is.is) c.step.ensures
+returns-in-Ok c = rw (lt-ltb _ _ c.if-a-words.false, ← c.in-Ok.ensures) c.step.ensures
 
-pub returns-in-Undefined : goal.returns-in-Undefined
+pub returns-in-Err : goal.returns-in-Err
 unfolding step_of
-returns-in-Undefined c =
-    rw (lt-ltb _ _ c.if-a-words.false, ← c.decode-d.ensures, c.in-Undefined.is, c.refused-in-Undefined.ensures)
+returns-in-Err c = rw (lt-ltb _ _ c.if-a-words.false, ← c.in-Err.ensures, c.refused-in-Err.ensures)
