@@ -5,5 +5,5 @@ mod operations;
 
 pub use operations::{
     Sum, Turned, add, and, bit, complement, is_zero, less_one, or, plus_one, rotate_left,
-    rotate_right, subtract, swap, with_bit, without_bit, xor,
+    rotate_right, subtract, swap, with_bit, xor,
 };

@@ -196,7 +196,7 @@ fn tried_on(
 
 fn write_ran(rt: &impl Print, name: &[u8], ran: Ran) -> io::Result<()> {
     rt.write_all(name)?;
-    write(rt, b": ", ran.number as u64)?;
+    write(rt, b": ", ran.number() as u64)?;
     write(rt, b" done ", ran.done as u64)?;
     write(rt, b" cycles ", ran.cycles as u64)?;
     let state = ran.state;

@@ -17,8 +17,8 @@ use Rattle.decoder.proofs.Below.{below}
 use Rattle.decoder.proofs.Below as tests
 use Rattle.alu.specs.Alu.{Flags, Result, with_bit}
 use Rattle.alu.specs.Alu.Flags.{none, only_z, only_c, all}
-use Rattle.machine.specs.declared.registers.Place.{Place}
-use Rattle.machine.specs.declared.registers.Place.TheVariants.{Nowhere, Latch, Cell}
+use Rattle.machine.specs.declared.place.Place.{Place}
+use Rattle.machine.specs.declared.place.Place.TheVariants.{Nowhere, Latch, Cell}
 use Rattle.machine.specs.declared.state.State.{State}
 use Rattle.machine.specs.State.{plus, pushed, popped}
 use Rattle.machine.specs.Registers.{STATUS, PCLATH, INTCON, address_of, shared, place_of, place_at, read_at, page_of, flag, stored}

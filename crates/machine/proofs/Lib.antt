@@ -2,7 +2,6 @@
 -- and the crate's functions, and only the crate itself can name them.
 pub mod Laws
 pub mod Determined
-mod Entries
 mod Flowing
 mod Operands
 mod Places
@@ -11,3 +10,5 @@ mod Tested
 mod Turns
 mod Ways
 mod Within
+mod Entries
+mod Words

@@ -1,30 +1,52 @@
 -- The tests 2, 3 and 4 before a run: what is turned down, and what has passed. Assumes nothing.
-use mathlib.Core.Path.{◌≡◌, refl}
+use mathlib.Core.Path.{◌≡◌, refl, sym}
 use mathlib.Core.Logic.{◌≢◌}
 use mathlib.Core.Bool.{Bool, true, false, cond, not, ◌&&◌, and-eq-true_iff}
 use mathlib.Core.List.{List}
-use Prim.Native.Nat.{ℕ}
+use Prim.Native.Nat.{ℕ, ◌≤◌}
 use native.Mathlib.Omega.{arith}
 use lib.Dec.{leb, eqb}
 use lib.ListN.{length}
-use borrow.Author.Tests.{eqb-true, leb-true, le-leb}
+use borrow.Author.Tests.{eqb-true, leb-true, le-leb, ne_eqb}
+use Rattle.machine.specs.declared.refusal.Refusal.{Refusal}
+use Rattle.machine.specs.declared.refusal.Refusal.TheVariants as refusal
+use Rattle.machine.specs.declared.refusal.Refusal.TheVariants.{Sizes, Length, PastWords, Undefined, StackFull, StackEmpty, CountedPcl}
 use Rattle.machine.specs.declared.state.State.{State}
+use Rattle.machine.specs.Numbers.{number_of}
 use Rattle.machine.specs.Run.{Left, ends, steps_of, sizes_fit, state_fits, entries_fit, run_of}
 use Rattle.machine.specs.Inner.{Within, test_of}
 
--- A run that a test turns down leaves everything.
-pub turned_down : (words file : List ℕ) (s : State) (n t : ℕ) → t ≡ test_of (length words) (length file) s n → t ≢ 0
-    → run_of words file s n ≡ ends s file 0 0 t
-unfolding run_of test_of
-turned_down words file s n t e h = go (sizes_fit (length words) (length file)) (state_fits s) (leb n 1000000) e
+-- 0 is no refusal's number.
+not_none : (r : Refusal) → number_of r ≢ 0
+not_none r h = absurd (omega (arith, h, least r))
   where
-    go : (p q r : Bool) → t ≡ cond p (cond q (cond r 0 4) 3) 2
-        → cond (not p) (ends s file 0 0 2) (cond (not q) (ends s file 0 0 3) (cond (not r) (ends s file 0 0 4) (steps_of words n s file)))
-        ≡ ends s file 0 0 t
-    go true true true e = absurd (h e)
-    go true true false e = rw e
-    go true false r e = rw e
-    go false q r e = rw e
+    least : (r : Refusal) → 2 ≤ number_of r
+    least Sizes = omega arith
+    least refusal.State = omega arith
+    least Length = omega arith
+    least PastWords = omega arith
+    least Undefined = omega arith
+    least StackFull = omega arith
+    least StackEmpty = omega arith
+    least CountedPcl = omega arith
+
+-- A run on another file than 512 bytes, or one that a test turns down, leaves everything.
+pub wrong_bytes : (words file : List ℕ) (s : State) (n : ℕ) → length file ≢ 512 → ends s file 0 0 2 ≡ run_of words file s n
+unfolding run_of sizes_fit
+wrong_bytes words file s n h = rw (ne_eqb (length file) 512 h)
+
+pub turned_down : (words file : List ℕ) (s : State) (n : ℕ) (r : Refusal) → length file ≡ 512 → number_of r ≡ test_of (length words) 512 s n
+    → ends s file 0 0 (number_of r) ≡ run_of words file s n
+unfolding run_of test_of
+turned_down words file s n r bytes e = rw bytes (sym (go (sizes_fit (length words) 512) (state_fits s) (leb n 1000000) (number_of r) (not_none r) e))
+  where
+    go : (p q t : Bool) (number : ℕ) → number ≢ 0 → number ≡ cond p (cond q (cond t 0 4) 3) 2
+        → cond (not p) (ends s file 0 0 2) (cond (not q) (ends s file 0 0 3) (cond (not t) (ends s file 0 0 4) (steps_of words n s file)))
+        ≡ ends s file 0 0 number
+    go true true true number h e = absurd (h e)
+    go true true false number h e = rw e
+    go true false t number h e = rw e
+    go false q t number h e = rw e
 
 pub record Passed (words file : List ℕ) (s : State) (n : ℕ) : Type 0 where
   pub run : run_of words file s n ≡ steps_of words n s file
@@ -32,9 +54,9 @@ pub record Passed (words file : List ℕ) (s : State) (n : ℕ) : Type 0 where
   pub state : state_fits s ≡ true
   pub count : leb n 1000000 ≡ true
 
-pub passed : (words file : List ℕ) (s : State) (n : ℕ) → test_of (length words) (length file) s n ≡ 0 → Passed words file s n
+pub passed : (words file : List ℕ) (s : State) (n : ℕ) → length file ≡ 512 → test_of (length words) 512 s n ≡ 0 → Passed words file s n
 unfolding run_of test_of
-passed words file s n e = go (sizes_fit (length words) (length file)) (state_fits s) (leb n 1000000) refl refl refl e
+passed words file s n bytes e = go (sizes_fit (length words) (length file)) (state_fits s) (leb n 1000000) refl refl refl (rw bytes e)
   where
     go : (p q r : Bool) → sizes_fit (length words) (length file) ≡ p → state_fits s ≡ q → leb n 1000000 ≡ r
         → ◌≡◌ {A = ℕ} (cond p (cond q (cond r 0 4) 3) 2) 0 → Passed words file s n

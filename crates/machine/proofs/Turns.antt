@@ -1,5 +1,6 @@
 -- One turn of a run: what follows from what a step shows. Assumes nothing.
 use mathlib.Core.Path.{◌≡◌, refl, sym, ap, ◌∙◌}
+use mathlib.Core.Bool.{false}
 use mathlib.Core.List.{List}
 use Prim.Native.Nat.{ℕ, suc, ◌+◌, ◌-◌, ◌≤◌, ◌<◌}
 use native.Mathlib.Omega.{arith}
@@ -7,10 +8,14 @@ use lib.Dec.{eqb}
 use lib.ListN.{length}
 use borrow.Author.Tests.{ne_eqb}
 use Rattle.alu.specs.Alu.{to_bit}
+use Rattle.machine.specs.declared.refusal.Refusal.{Refusal}
+use Rattle.machine.specs.declared.refusal.Refusal.TheVariants as refusal
+use Rattle.machine.specs.declared.refusal.Refusal.TheVariants.{Sizes, Length, PastWords, Undefined, StackFull, StackEmpty, CountedPcl}
 use Rattle.machine.specs.declared.state.State.{State}
 use Rattle.machine.specs.Step.{Outcome, step_of}
 use Rattle.machine.specs.Step.Outcome.{done, refused}
 use Rattle.machine.specs.Step.Note.{going, cleared, asleep}
+use Rattle.machine.specs.Numbers.{number_of}
 use Rattle.machine.specs.Run.{Left, ends, after, steps_of}
 use Rattle.machine.specs.Inner.{Within, Shown, expected}
 use Rattle.machine.specs.Inner.Sign.{on, stop}
@@ -54,6 +59,17 @@ module _ (words : List ℕ) (s : State) (file : List ℕ) (h : Within s) (bytes 
   pub go_stop : {x : Shown} → x ≡ expected s file (step_of words s file) → (q : ℕ) → x.sign ≡ stop q → Stops words s file x q
   go_stop e q z = rw e (stops (step_of words s file) (step_kept words s file h bytes) refl q (rw e at z))
 
+-- 1 is no refusal's number.
+no_sleep : (r : Refusal) → eqb (number_of r) 1 ≡ false
+no_sleep Sizes = refl
+no_sleep refusal.State = refl
+no_sleep Length = refl
+no_sleep PastWords = refl
+no_sleep Undefined = refl
+no_sleep StackFull = refl
+no_sleep StackEmpty = refl
+no_sleep CountedPcl = refl
+
 -- Instructions and cycles add up.
 pub after_after : (n k m c : ℕ) (l : Left) → after n k (after m c l) ≡ after (n + m) (k + c) l
 after_after n k m c l =
@@ -77,16 +93,25 @@ module _ (words : List ℕ) (n : ℕ) (all : Left) (s : State) (file : List ℕ)
       so_far ∙ ap (λ (m : ℕ). after i k (steps_of words m s file)) one_more ∙ ap (after i k) (g.rest (n - (i + 1)))
       ∙ after_after i k 1 x.cycles (steps_of words (n - (i + 1)) x.state x.file)
 
-  pub broken_off : (x : Shown) (q : ℕ) → Stops words s file x q
-      → all ≡ ends x.state x.file (i + to_bit (eqb q 1)) (k + x.cycles) q
+  broken_off : (x : Shown) (q : ℕ) → Stops words s file x q → all ≡ ends x.state x.file (i + to_bit (eqb q 1)) (k + x.cycles) q
   broken_off x q g =
       so_far ∙ ap (λ (m : ℕ). after i k (steps_of words m s file)) one_more ∙ ap (after i k) (g.all (n - (i + 1)))
 
-pub at_the_end : (words : List ℕ) (n : ℕ) (all : Left) (s : State) (file : List ℕ) (i k : ℕ) → n ≤ i → all ≡ after i k (steps_of words (n - i) s file)
-    → i ≤ n → all ≡ ends s file i k 0
+  pub slept : (x : Shown) → Stops words s file x 1 → ends x.state x.file (i + 1) (k + x.cycles) 1 ≡ all
+  slept x g = sym (broken_off x 1 g)
+
+  -- A refused instruction takes no cycle and is not counted.
+  pub refused_at : (x : Shown) (r : Refusal) → x.cycles ≡ 0 → Stops words s file x (number_of r) → ends x.state x.file i k (number_of r) ≡ all
+  refused_at x r e g =
+      let count : i + to_bit (eqb (number_of r) 1) ≡ i = rw (no_sleep r) (omega arith) in
+      let cycles : k + x.cycles ≡ k = omega arith in
+      sym (broken_off x (number_of r) g ∙ rw (count, cycles))
+
+pub at_the_end : (words : List ℕ) (n : ℕ) (all : Left) (s : State) (file : List ℕ) (i k : ℕ) → i ≡ n
+    → all ≡ after i k (steps_of words (n - i) s file) → ends s file n k 0 ≡ all
 unfolding steps_of
-at_the_end words n all s file i k h e b =
+at_the_end words n all s file i k last e =
     let none : n - i ≡ 0 = omega arith in
-    let count : i + 0 ≡ i = omega arith in
+    let count : i + 0 ≡ n = omega arith in
     let cycles : k + 0 ≡ k = omega arith in
-    e ∙ rw (none, count, cycles)
+    sym (e ∙ rw (none, count, cycles))

@@ -15,8 +15,8 @@ use Rattle.decoder.specs.Table.{Answer, decode_of}
 use Rattle.decoder.specs.Table.Answer.{gives, refuses}
 use Rattle.alu.specs.Alu.{Flags, Result}
 use Rattle.alu.specs.Alu.Flags.{none, only_z, only_c, all}
-use Rattle.machine.specs.declared.registers.Place.{Place}
-use Rattle.machine.specs.declared.registers.Place.TheVariants.{Nowhere, Counter, Latch, Cell}
+use Rattle.machine.specs.declared.place.Place.{Place}
+use Rattle.machine.specs.declared.place.Place.TheVariants.{Nowhere, Counter, Latch, Cell}
 use Rattle.machine.specs.declared.state.State.{State}
 use Rattle.machine.specs.State.{plus, moved, pushed}
 use Rattle.machine.specs.Registers.{place_at, write_at, page_of, flag, stored}

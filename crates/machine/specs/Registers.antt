@@ -3,8 +3,8 @@
 use Rattle.std.specs.Prelude.{Bool, cond, ◌||◌, List, ℕ, ◌+◌, ◌*◌, ◌/◌, ◌%◌, leb, eqb, get_or, set}
 use Rattle.alu.specs.Alu.{Flags, Result, with_bit}
 use Rattle.alu.specs.Alu.Flags.{none, only_z, only_c, all}
-use Rattle.machine.specs.declared.registers.Place.{Place}
-use Rattle.machine.specs.declared.registers.Place.TheVariants.{Nowhere, Counter, Latch, Cell}
+use Rattle.machine.specs.declared.place.Place.{Place}
+use Rattle.machine.specs.declared.place.Place.TheVariants.{Nowhere, Counter, Latch, Cell}
 use Rattle.machine.specs.State.{plus}
 
 abbrev pub STATUS : ℕ
@@ -39,6 +39,13 @@ place_of a =
     (cond (eqb q 0x02) Counter
     (cond (eqb q PCLATH) Latch
     (cond (shared q) (Cell q) (Cell a))))
+
+-- The cell of a place; 0 for one that has none.
+abbrev pub cell_of : Place → ℕ
+cell_of Nowhere = 0
+cell_of Counter = 0
+cell_of Latch = PCLATH
+cell_of (Cell n) = n
 
 -- Where the register f of an instruction lies.
 abbrev pub place_at : List ℕ → ℕ → Place

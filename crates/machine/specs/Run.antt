@@ -1,14 +1,20 @@
 -- A run: document 01, "Run answers". Assumes nothing.
 use Rattle.std.specs.Prelude.{Bool, true, cond, ◌&&◌, not, List, [], ◌∷◌, ℕ, zero, suc, ◌+◌, leb, eqb, length}
 use Rattle.machine.specs.declared.state.State.{State}
-use Rattle.machine.specs.declared.running.Ran.{Ran}
 use Rattle.machine.specs.Step.{Outcome, step_of}
 use Rattle.machine.specs.Step.Outcome.{done, refused}
 use Rattle.machine.specs.Step.Note.{going, cleared, asleep}
 
--- What a run leaves: its result (state, instructions done, cycles, number) and the lent file.
+-- A run's result: "state, instructions done, cycles, number".
+pub record Told : Type 0 where
+  pub state : State
+  pub done : ℕ
+  pub cycles : ℕ
+  pub number : ℕ
+
+-- What a run leaves: its result and the lent file.
 pub record Left : Type 0 where
-  pub ran : Ran
+  pub ran : Told
   pub file : List ℕ
 
 abbrev pub ends : State → List ℕ → ℕ → ℕ → ℕ → Left

@@ -6,8 +6,8 @@ use Rattle.decoder.specs.declared.instruction.Instruction.{Instruction}
 use Rattle.decoder.specs.Table.{Answer, decode_of}
 use Rattle.decoder.specs.Table.Answer.{gives, refuses}
 use Rattle.alu.specs.Alu.{Result, bit_of, with_bit}
-use Rattle.machine.specs.declared.registers.Place.{Place}
-use Rattle.machine.specs.declared.registers.Place.TheVariants.{Nowhere, Counter, Latch, Cell}
+use Rattle.machine.specs.declared.place.Place.{Place}
+use Rattle.machine.specs.declared.place.Place.TheVariants.{Nowhere, Counter, Latch, Cell}
 use Rattle.machine.specs.declared.state.State.{State}
 use Rattle.machine.specs.State.{plus, moved, pushed, popped}
 use Rattle.machine.specs.Registers.{STATUS, INTCON, place_at, read_at, write_at, counter_from, page_of, flag, stored}

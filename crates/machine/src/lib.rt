@@ -3,11 +3,16 @@
 #![tactic(auto)]
 
 mod control;
+mod flags;
+mod place;
+mod refusal;
 mod registers;
 mod results;
 mod running;
+mod stack;
 mod state;
 mod step;
 
-pub use running::{Ran, run};
+pub use refusal::Refusal;
+pub use running::{Finish, Ran, run};
 pub use state::State;

@@ -1,7 +1,9 @@
 // The register map: document 01, "Registers".
-ghost use Rattle.std.specs.Prelude.{◌≡◌, ◌≤◌, ◌<◌, ◌%◌, length};
-ghost use Rattle.machine.specs.Registers.{address_of, place_of, place_at, read_at};
-ghost use Rattle.machine.specs.Inner.{Inside, Found};
+ghost use Rattle.std.specs.Prelude.{◌≡◌, ◌*◌, ◌/◌, ◌%◌, ◌≤◌, ◌<◌, get_or};
+ghost use Rattle.machine.specs.Registers.{address_of, place_of, place_at, read_at, write_at, cell_of};
+ghost use Rattle.machine.specs.Inner.{Found};
+
+use crate::place::{Operand, Place};
 
 pub(crate) const STATUS: usize = 0x03;
 
@@ -15,28 +17,9 @@ const FIRST_PLAIN: usize = 0x0C;
 
 const FIRST_SHARED: usize = 0x70;
 
-// Where an address leads.
-#[derive(Clone, Copy)]
-pub enum Place {
-    // INDF, reached through itself.
-    Nowhere,
-    // PCL, which has no cell.
-    Counter,
-    // PCLATH, of which five bits are read and written.
-    Latch,
-    Cell(usize),
-}
-
-// A register's place and its byte.
-#[derive(Clone, Copy)]
-pub(crate) struct Operand {
-    pub(crate) place: Place,
-    pub(crate) byte: u8,
-}
-
 // The operand f of an instruction at the counter.
-pub(crate) fn operand_at(file: &[u8], f: u8, counter: usize) -> Operand
-    requires { (length file.now ≡ 512) × (f ≤ 127) }
+pub(crate) fn operand_at(file: &[u8; 512], f: u8, counter: usize) -> Operand
+    requires { f ≤ 127 }
     ensures { Found file.now f counter result }
 {
     let place = place_at(file, f);
@@ -47,38 +30,45 @@ pub(crate) fn operand_at(file: &[u8], f: u8, counter: usize) -> Operand
 }
 
 // The place of the register f: first the plain ones, which are most.
-fn place_at(file: &[u8], f: u8) -> Place
-    requires { (length file.now ≡ 512) × (f ≤ 127) }
-    ensures { (result ≡ place_at file.now f) × Inside result }
+#[tactic(auto, using(crate::proofs::Places::plain_register, crate::proofs::Places::upper_register, crate::proofs::Places::inside))]
+fn place_at(file: &[u8; 512], f: u8) -> Place
+    requires { f ≤ 127 }
+    ensures { (result ≡ place_at file.now f) × (cell_of result < 512) }
 {
-    let q = wide(f);
+    let q = usize::from(f);
     if q >= FIRST_PLAIN {
-        if q < FIRST_SHARED {
-            let status = wide(file[STATUS]);
-            return Place::Cell(status / 32 % 4 * 128 + q);
-        }
-        return Place::Cell(q);
+        return if q < FIRST_SHARED {
+            Place::Cell(bank(file) + q)
+        } else {
+            Place::Cell(q)
+        };
     }
-    led_to(address(file, q))
+    led_to(address(file, f))
 }
 
 // The nine-bit address of f: direct by RP1 and RP0, or where f is 0 indirect by IRP and FSR.
-fn address(file: &[u8], f: usize) -> usize
-    requires { (length file.now ≡ 512) × (f ≤ 127) }
-    ensures { (result ≡ address_of file.now f) × (result < 512) }
+#[tactic(auto, unfolding(crate::specs::Registers::address_of))]
+fn address(file: &[u8; 512], f: u8) -> usize
+    ensures { result ≡ address_of file.now f }
 {
-    let status = wide(file[STATUS]);
     if f == 0 {
-        status / 128 * 256 + wide(file[FSR])
+        usize::from(file[STATUS]) / 128 * 256 + usize::from(file[FSR])
     } else {
-        status / 32 % 4 * 128 + f
+        bank(file) + usize::from(f)
     }
 }
 
+// Where the bank of RP1 and RP0 begins.
+fn bank(file: &[u8; 512]) -> usize
+    ensures { result ≡ get_or file.now STATUS 0 / 32 % 4 * 128 }
+{
+    usize::from(file[STATUS]) / 32 % 4 * 128
+}
+
 // Where any address leads.
+#[tactic(auto, using(crate::proofs::Places::plain_place, crate::proofs::Places::upper_place), unfolding(crate::specs::Registers::place_of, crate::specs::Registers::shared))]
 fn led_to(a: usize) -> Place
-    requires { a < 512 }
-    ensures { (result ≡ place_of a) × Inside result }
+    ensures { result ≡ place_of a }
 {
     let q = a % 128;
     if q >= FIRST_PLAIN {
@@ -100,8 +90,8 @@ fn led_to(a: usize) -> Place
 }
 
 // The byte that an instruction at the counter reads.
-fn load(file: &[u8], p: Place, counter: usize) -> u8
-    requires { (length file.now ≡ 512) × Inside p }
+fn load(file: &[u8; 512], p: Place, counter: usize) -> u8
+    requires { cell_of p < 512 }
     ensures { result ≡ read_at counter file.now p }
 {
     match p {
@@ -112,8 +102,13 @@ fn load(file: &[u8], p: Place, counter: usize) -> u8
     }
 }
 
-pub(crate) fn wide(x: u8) -> usize
-    ensures { (result ≡ x) × (result < 256) }
+// A byte to its place. One for PCL has no cell: it goes to the counter.
+pub(crate) fn store(file: &mut [u8; 512], o: Operand, v: u8)
+    ensures { file.new ≡ write_at file.old o.place v }
 {
-    x as usize
+    match o.place {
+        Place::Nowhere | Place::Counter => {}
+        Place::Latch => file[PCLATH] = v % 32,
+        Place::Cell(n) => file[n] = v,
+    }
 }

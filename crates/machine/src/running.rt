@@ -1,82 +1,120 @@
 // A run: document 01, "Run answers".
-ghost use Rattle.std.specs.Prelude.{◌≡◌, ◌≤◌, ◌<◌, length};
+ghost use Rattle.std.specs.Prelude.{◌≡◌, ◌≤◌, length};
 ghost use Rattle.machine.specs.Step.{step_of};
-ghost use Rattle.machine.specs.Run.{steps_of};
+ghost use Rattle.machine.specs.Run.{entries_fit, state_fits, steps_of, run_of};
+ghost use Rattle.machine.specs.Numbers.{end_number};
 ghost use Rattle.machine.specs.Answers.{Runs};
-ghost use Rattle.machine.specs.Inner.{Within, state_of, shown, expected, skipped, test_of, left_by, stopped_of};
+ghost use Rattle.machine.specs.Inner.{Within, state_of, tried, expected, test_of, test_answer, told_by, left_by};
 
-use crate::control::refused;
-use crate::state::{Core, State, after, entries_fit};
+use crate::refusal::Refusal;
+use crate::stack::Stack;
+use crate::state::{Core, State};
 use crate::step::{End, Stepped, step};
 
-// A run's result: the state after it, the instructions done, their cycles, and document 01's number.
-#[derive(Clone, Copy)]
+// How a run ends that nothing stops: all n are done, or the last one done is SLEEP.
+#[derive(Clone, Copy, Debug, PartialEq, Eq, Hash)]
+pub enum Finish {
+    All = 0,
+    Asleep = 1,
+}
+
+// A run's result: the state after it, the instructions done, their cycles, and how it ends.
+#[derive(Clone, Copy, Debug, PartialEq, Eq, Hash)]
 pub struct Ran {
     pub state: State,
     pub done: u32,
     pub cycles: u32,
-    pub number: u8,
+    pub end: Result<Finish, Refusal>,
+}
+
+impl Ran {
+    // Document 01's number.
+    pub fn number(self) -> u8
+        ensures { result ≡ end_number self.end }
+    {
+        match self.end {
+            Ok(finish) => finish as u8,
+            Err(refusal) => u8::from(refusal),
+        }
+    }
 }
 
 // n instructions from the state on: 2, 3 and 4 are tried first, then 5 to 9 at each instruction.
 pub fn run(words: &[u16], file: &mut [u8], state: State, n: u32) -> Ran
     ensures { Runs words.now file.old state n result file.new }
 {
-    let number = turned_down(words.len(), file.len(), state, n);
-    if number != 0 {
-        return Ran {
+    match admitted(words, file, state, n) {
+        Ok(ran) => ran,
+        Err(refusal) => Ran {
             state,
             done: 0,
             cycles: 0,
-            number,
-        };
-    }
-    let mut stack = state.stack;
-    let core = Core {
-        w: state.w,
-        counter: state.counter as usize,
-        depth: state.depth as usize,
-    };
-    let r = go(core, &mut stack, words, file, n);
-    let c = r.core;
-    Ran {
-        state: State {
-            w: c.w,
-            counter: c.counter as u16,
-            depth: c.depth as u8,
-            stack,
+            end: Err(refusal),
         },
-        done: r.done,
-        cycles: r.cycles,
-        number: r.number,
     }
 }
 
-// The number of the first test of 2, 3 and 4 that fails, or 0.
-fn turned_down(words: usize, bytes: usize, state: State, n: u32) -> u8
-    ensures { result ≡ test_of words bytes state n }
+#[tactic(auto, using(crate::proofs::Tested::wrong_bytes, crate::proofs::Tested::turned_down))]
+fn admitted(words: &[u16], file: &mut [u8], state: State, n: u32) -> Result<Ran, Refusal>
+    ensures { record { ran = told_by state result; file = file.new } ≡ run_of words.now file.old state n }
 {
-    if bytes != State::BYTES {
-        return 2;
+    let cells = file
+        .as_mut_array::<{ State::BYTES }>()
+        .ok_or(Refusal::Sizes)?;
+    tested(words.len(), state, n)?;
+    let entries = state.stack;
+    let mut stack = Stack {
+        entries,
+        depth: usize::from(state.depth),
+    };
+    let core = Core {
+        w: state.w,
+        counter: usize::from(state.counter),
+    };
+    let r = go(core, &mut stack, words, cells, n);
+    let stack_after = stack.entries;
+    Ok(Ran {
+        state: State {
+            w: r.core.w,
+            counter: r.core.counter as u16,
+            depth: stack.depth as u8,
+            stack: stack_after,
+        },
+        done: r.done,
+        cycles: r.cycles,
+        end: r.end,
+    })
+}
+
+// The tests 2, 3 and 4 of a run on 512 bytes, in that order.
+#[tactic(auto, unfolding(crate::specs::Inner::test_of, crate::specs::Run::sizes_fit))]
+fn tested(words: usize, state: State, n: u32) -> Result<(), Refusal>
+    ensures { test_answer result ≡ test_of words 512 state n }
+{
+    if words == 0 || words > State::WORDS {
+        return Err(Refusal::Sizes);
     }
-    if words == 0 {
-        return 2;
+    if !state_fits(state) {
+        return Err(Refusal::State);
     }
-    if words > State::WORDS {
-        return 2;
+    if n > State::LONGEST {
+        return Err(Refusal::Length);
     }
-    if state.counter > State::LAST {
-        return 3;
-    }
-    if state.depth > State::PLACES {
-        return 3;
-    }
-    let stack = state.stack;
-    if entries_fit(stack) {
-        if n > State::LONGEST { 4 } else { 0 }
-    } else {
-        3
-    }
+    Ok(())
+}
+
+#[tactic(auto, unfolding(crate::specs::Run::state_fits))]
+fn state_fits(state: State) -> bool
+    ensures { result ≡ state_fits state }
+{
+    state.counter <= State::LAST && state.depth <= State::PLACES && entries_fit(state.stack)
+}
+
+// Whether no stack entry is past the last address.
+fn entries_fit(stack: [u16; 8]) -> bool
+    ensures { result ≡ entries_fit stack }
+{
+    stack.iter().all(|&entry| entry <= State::LAST)
 }
 
 // What the loop leaves beside the stack and the file.
@@ -85,85 +123,62 @@ pub(crate) struct Gone {
     pub(crate) core: Core,
     pub(crate) done: u32,
     pub(crate) cycles: u32,
-    pub(crate) number: u8,
+    pub(crate) end: Result<Finish, Refusal>,
 }
 
-// n instructions, or those before the one that stops the run.
-fn go(c: Core, stack: &mut [u16], words: &[u16], file: &mut [u8], n: u32) -> Gone
-    requires { (length file.old ≡ 512) × Within (state_of c stack.old) × (n ≤ 1000000) }
+// n instructions, or those before the one that stops the run. SLEEP counts as done; a refused
+// instruction does not.
+fn go(c: Core, stack: &mut Stack, words: &[u16], file: &mut [u8; 512], n: u32) -> Gone
+    requires { Within (state_of c stack.old) × (n ≤ 1000000) }
     ensures { (left_by result stack.new file.new ≡ steps_of words.now n (state_of c stack.old) file.old) × Within (state_of result.core stack.new) }
 {
     let mut core = c;
-    let mut done: u32 = 0;
     let mut cycles: u32 = 0;
-    while done < n {
-        let r = turn(core, stack, words, file);
-        let end = r.end;
-        match end {
+    for done in 0..n {
+        let r = match turn(core, stack, words, file) {
+            Ok(r) => r,
+            Err(refusal) => {
+                return Gone {
+                    core,
+                    done,
+                    cycles,
+                    end: Err(refusal),
+                };
+            }
+        };
+        match r.end {
             End::Next => {
                 core = r.core;
                 cycles += r.cycles;
             }
             End::Skip => {
-                core = past(r.core);
+                core = r.core.past();
                 cycles += 2;
             }
-            End::Stop(number) => return stopped(r.core, done, cycles + r.cycles, number),
+            End::Sleep => {
+                return Gone {
+                    core: r.core,
+                    done: done + 1,
+                    cycles: cycles + r.cycles,
+                    end: Ok(Finish::Asleep),
+                };
+            }
         }
-        done += 1;
     }
     Gone {
         core,
-        done,
+        done: n,
         cycles,
-        number: 0,
+        end: Ok(Finish::All),
     }
 }
 
 // The instruction at the counter, or why there is none.
-fn turn(c: Core, stack: &mut [u16], words: &[u16], file: &mut [u8]) -> Stepped
-    requires { (length file.old ≡ 512) × (length stack.old ≡ 8) × (c.depth ≤ 8) }
-    ensures { shown result stack.new file.new ≡ expected (state_of c stack.old) file.old (step_of words.now (state_of c stack.old) file.old) }
+#[tactic(auto, using(crate::proofs::Words::past_words, crate::proofs::Words::word_done, crate::proofs::Words::word_undefined, decoder::proofs::Laws::operands_in_range))]
+fn turn(c: Core, stack: &mut Stack, words: &[u16], file: &mut [u8; 512]) -> Result<Stepped, Refusal>
+    ensures { tried c result stack.new file.new ≡ expected (state_of c stack.old) file.old (step_of words.now (state_of c stack.old) file.old) }
 {
-    let a = c.counter;
-    if a >= words.len() {
-        return refused(c, 5);
-    }
-    match decoder::decode(words[a]) {
-        Ok(i) => step(c, stack, file, i),
-        Err(_) => refused(c, 6),
-    }
-}
-
-// Past the word that a taken skip leaves out.
-fn past(c: Core) -> Core
-    ensures { result ≡ skipped c }
-{
-    Core {
-        w: c.w,
-        counter: after(c.counter),
-        depth: c.depth,
-    }
-}
-
-// SLEEP counts as done; a refused instruction does not.
-fn stopped(core: Core, done: u32, cycles: u32, number: u8) -> Gone
-    requires { done < 1000000 }
-    ensures { result ≡ stopped_of core done cycles number }
-{
-    if number == 1 {
-        Gone {
-            core,
-            done: done + 1,
-            cycles,
-            number,
-        }
-    } else {
-        Gone {
-            core,
-            done,
-            cycles,
-            number,
-        }
-    }
+    let word = words.get(c.counter).ok_or(Refusal::PastWords)?;
+    let i = decoder::decode(*word).map_err(|_| Refusal::Undefined)?;
+    step(c, stack, file, i)
 }

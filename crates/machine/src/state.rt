@@ -2,10 +2,9 @@
 // limits and its blank start belong to its own type.
 ghost use Rattle.std.specs.Prelude.{◌≡◌};
 ghost use Rattle.machine.specs.State.{plus};
-ghost use Rattle.machine.specs.Run.{entries_fit};
 ghost use Rattle.machine.specs.Answers.{IsBlank, IsBlankFile};
 
-#[derive(Clone, Copy)]
+#[derive(Clone, Copy, Debug, PartialEq, Eq, Hash)]
 pub struct State {
     pub w: u8,
     pub counter: u16,
@@ -44,29 +43,12 @@ impl State {
     }
 }
 
-// State::PLACES, where it counts entries.
-pub(crate) const PLACES: usize = 8;
-
-// Whether no stack entry is past the last address.
-pub(crate) fn entries_fit(stack: [u16; 8]) -> bool
-    ensures { result ≡ entries_fit stack }
-{
-    let mut i: usize = 0;
-    while i < PLACES {
-        if stack[i] > State::LAST {
-            return false;
-        }
-        i += 1;
-    }
-    true
-}
-
-// What an instruction works on, beside the stack and the file: a state without its stack.
+// What an instruction works on, beside the stack and the file: a state without its stack. It goes in and comes back by
+// value, so that a refused instruction leaves it as it was; the stack and the file, which are large, are lent beside it.
 #[derive(Clone, Copy)]
 pub(crate) struct Core {
     pub(crate) w: u8,
     pub(crate) counter: usize,
-    pub(crate) depth: usize,
 }
 
 // The address after a.

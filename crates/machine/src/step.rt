@@ -1,26 +1,29 @@
 // One instruction: document 01, "One instruction". Each arm of `step` does its whole work on the core,
 // the stack and the file; a taken skip's second word is left to the run's loop.
-ghost use Rattle.std.specs.Prelude.{◌≡◌, ◌≤◌, length};
+ghost use Rattle.std.specs.Prelude.{◌≡◌};
 ghost use Rattle.decoder.specs.Printed.{InRange};
 ghost use Rattle.machine.specs.Step.{done_by};
-ghost use Rattle.machine.specs.Inner.{state_of, shown, expected};
+ghost use Rattle.machine.specs.Inner.{state_of, tried, expected};
 
-use crate::control::{call, jump, next, pop, retfie, skip, sleep, target, watchdog};
+use crate::control::{back, call, retfie, target, watchdog};
+use crate::flags::{Plain, Zeroed};
+use crate::refusal::Refusal;
 use crate::registers::{STATUS, operand_at};
-use crate::results::{literal, literal_sum, put, put_c, put_count, put_sum, put_z, store};
+use crate::results::{count, put, to_place, to_w};
+use crate::stack::Stack;
 use crate::state::Core;
 use alu::{
     add, and, bit, complement, less_one, or, plus_one, rotate_left, rotate_right, subtract, swap,
-    with_bit, without_bit, xor,
+    with_bit, xor,
 };
-use decoder::{Dest, Instruction};
+use decoder::Instruction;
 
-// How a step ends: the run goes on, goes on past the next word, or stops with a number.
+// How a step ends: the run goes on, goes on past the next word, or ends in SLEEP.
 #[derive(Clone, Copy)]
-pub enum End {
+pub(crate) enum End {
     Next,
     Skip,
-    Stop(u8),
+    Sleep,
 }
 
 #[derive(Clone, Copy)]
@@ -30,113 +33,119 @@ pub(crate) struct Stepped {
     pub(crate) end: End,
 }
 
-pub(crate) fn step(c: Core, stack: &mut [u16], file: &mut [u8], i: Instruction) -> Stepped
-    requires { (length stack.old ≡ 8) × (length file.old ≡ 512) × (c.depth ≤ 8) × InRange i }
-    ensures { shown result stack.new file.new ≡ expected (state_of c stack.old) file.old (done_by i (state_of c stack.old) file.old) }
+#[tactic(auto, using(crate::proofs::Ways::skips), unfolding(crate::specs::Step::done_by, crate::specs::Forms::form_of, crate::specs::Step::step_form))]
+pub(crate) fn step(
+    c: Core,
+    stack: &mut Stack,
+    file: &mut [u8; 512],
+    i: Instruction,
+) -> Result<Stepped, Refusal>
+    requires { InRange i }
+    ensures { tried c result stack.new file.new ≡ expected (state_of c stack.old) file.old (done_by i (state_of c stack.old) file.old) }
 {
     match i {
         Instruction::Addwf(f, d) => {
             let o = operand_at(file, f, c.counter);
-            put_sum(c, file, d, o, add(o.byte, c.w))
+            Ok(put(c, file, d, o, add(o.byte, c.w)))
         }
         Instruction::Andwf(f, d) => {
             let o = operand_at(file, f, c.counter);
-            put_z(c, file, d, o, and(o.byte, c.w))
+            Ok(put(c, file, d, o, Zeroed(and(o.byte, c.w))))
         }
         Instruction::Clrf(f) => {
             let o = operand_at(file, f, c.counter);
-            put_z(c, file, Dest::File, o, 0)
+            Ok(to_place(c, file, o, Zeroed(0)))
         }
-        Instruction::Clrw => literal(c, file, 0),
+        Instruction::Clrw => Ok(to_w(c, file, Zeroed(0))),
         Instruction::Comf(f, d) => {
             let o = operand_at(file, f, c.counter);
-            put_z(c, file, d, o, complement(o.byte))
+            Ok(put(c, file, d, o, Zeroed(complement(o.byte))))
         }
         Instruction::Decf(f, d) => {
             let o = operand_at(file, f, c.counter);
-            put_z(c, file, d, o, less_one(o.byte))
+            Ok(put(c, file, d, o, Zeroed(less_one(o.byte))))
         }
         Instruction::Decfsz(f, d) => {
             let o = operand_at(file, f, c.counter);
-            put_count(c, file, d, o, less_one(o.byte))
+            count(c, file, d, o, less_one(o.byte))
         }
         Instruction::Incf(f, d) => {
             let o = operand_at(file, f, c.counter);
-            put_z(c, file, d, o, plus_one(o.byte))
+            Ok(put(c, file, d, o, Zeroed(plus_one(o.byte))))
         }
         Instruction::Incfsz(f, d) => {
             let o = operand_at(file, f, c.counter);
-            put_count(c, file, d, o, plus_one(o.byte))
+            count(c, file, d, o, plus_one(o.byte))
         }
         Instruction::Iorwf(f, d) => {
             let o = operand_at(file, f, c.counter);
-            put_z(c, file, d, o, or(o.byte, c.w))
+            Ok(put(c, file, d, o, Zeroed(or(o.byte, c.w))))
         }
         Instruction::Movf(f, d) => {
             let o = operand_at(file, f, c.counter);
-            put_z(c, file, d, o, o.byte)
+            Ok(put(c, file, d, o, Zeroed(o.byte)))
         }
         Instruction::Movwf(f) => {
             let o = operand_at(file, f, c.counter);
-            store(c, file, o, c.w)
+            Ok(to_place(c, file, o, Plain(c.w)))
         }
-        Instruction::Nop => next(c, c.w),
+        Instruction::Nop => Ok(c.next()),
         Instruction::Rlf(f, d) => {
             let o = operand_at(file, f, c.counter);
             let turn = rotate_left(o.byte, file[STATUS]);
-            put_c(c, file, d, o, turn)
+            Ok(put(c, file, d, o, turn))
         }
         Instruction::Rrf(f, d) => {
             let o = operand_at(file, f, c.counter);
             let turn = rotate_right(o.byte, file[STATUS]);
-            put_c(c, file, d, o, turn)
+            Ok(put(c, file, d, o, turn))
         }
         Instruction::Subwf(f, d) => {
             let o = operand_at(file, f, c.counter);
-            put_sum(c, file, d, o, subtract(o.byte, c.w))
+            Ok(put(c, file, d, o, subtract(o.byte, c.w)))
         }
         Instruction::Swapf(f, d) => {
             let o = operand_at(file, f, c.counter);
-            put(c, file, d, o, swap(o.byte))
+            Ok(put(c, file, d, o, Plain(swap(o.byte))))
         }
         Instruction::Xorwf(f, d) => {
             let o = operand_at(file, f, c.counter);
-            put_z(c, file, d, o, xor(o.byte, c.w))
+            Ok(put(c, file, d, o, Zeroed(xor(o.byte, c.w))))
         }
         Instruction::Bcf(f, b) => {
             let o = operand_at(file, f, c.counter);
-            store(c, file, o, without_bit(o.byte, b))
+            Ok(to_place(c, file, o, Plain(with_bit(o.byte, b, false))))
         }
         Instruction::Bsf(f, b) => {
             let o = operand_at(file, f, c.counter);
-            store(c, file, o, with_bit(o.byte, b))
+            Ok(to_place(c, file, o, Plain(with_bit(o.byte, b, true))))
         }
         Instruction::Btfsc(f, b) => {
             let o = operand_at(file, f, c.counter);
-            skip(c, c.w, bit(o.byte, b) == 0)
+            Ok(c.skip(!bit(o.byte, b)))
         }
         Instruction::Btfss(f, b) => {
             let o = operand_at(file, f, c.counter);
-            skip(c, c.w, bit(o.byte, b) == 1)
+            Ok(c.skip(bit(o.byte, b)))
         }
-        Instruction::Addlw(k) => literal_sum(c, file, add(k, c.w)),
-        Instruction::Andlw(k) => literal(c, file, and(k, c.w)),
+        Instruction::Addlw(k) => Ok(to_w(c, file, add(k, c.w))),
+        Instruction::Andlw(k) => Ok(to_w(c, file, Zeroed(and(k, c.w)))),
         Instruction::Call(k) => call(c, stack, file, k),
         Instruction::Clrwdt => {
-            watchdog(file, 1);
-            next(c, c.w)
+            watchdog(file, true);
+            Ok(c.next())
         }
-        Instruction::Goto(k) => jump(c, target(file, k)),
-        Instruction::Iorlw(k) => literal(c, file, or(k, c.w)),
-        Instruction::Movlw(k) => next(c, k),
+        Instruction::Goto(k) => Ok(c.jump(target(file, k))),
+        Instruction::Iorlw(k) => Ok(to_w(c, file, Zeroed(or(k, c.w)))),
+        Instruction::Movlw(k) => Ok(to_w(c, file, Plain(k))),
         Instruction::Retfie => retfie(c, stack, file),
-        Instruction::Retlw(k) => pop(c, stack, k),
-        Instruction::Return => pop(c, stack, c.w),
+        Instruction::Retlw(k) => back(c, stack, k),
+        Instruction::Return => back(c, stack, c.w),
         Instruction::Sleep => {
-            watchdog(file, 0);
-            sleep(c)
+            watchdog(file, false);
+            Ok(c.sleep())
         }
-        Instruction::Sublw(k) => literal_sum(c, file, subtract(k, c.w)),
-        Instruction::Xorlw(k) => literal(c, file, xor(k, c.w)),
+        Instruction::Sublw(k) => Ok(to_w(c, file, subtract(k, c.w))),
+        Instruction::Xorlw(k) => Ok(to_w(c, file, Zeroed(xor(k, c.w)))),
     }
 }

@@ -44,7 +44,7 @@ pub fn program(
         fsr: file[FSR as usize],
         intcon: file[INTCON as usize],
         byte: if place < 512 { file[place] } else { 0 },
-        number: ran.number,
+        number: ran.number(),
     };
     write_text(rt, named)?;
     after.show(rt, letter(shown, 0))?;

@@ -1,55 +1,63 @@
 -- A turn goes on or stops as one of `steps_of` does, so the loop keeps its invariant and ends as `steps_of` does.
 -- Assumes nothing.
-use Rattle.std.proofs.Common.{◌≡◌, ℕ, ◌+◌, ◌≤◌, refl, sym, arith}
+use Rattle.std.proofs.Common.{◌≡◌, ℕ, ◌+◌, ◌≤◌, refl, arith}
+use Rattle.machine.specs.Numbers.{number_of}
 use Rattle.machine.specs.Inner.{state_of}
 use Rattle.machine.specs.Inner.Sign.{on}
-use Rattle.machine.proofs.Turns.{GoesOn, go_on, go_stop, carried_on, broken_off, at_the_end}
+use Rattle.machine.proofs.Turns.{GoesOn, go_on, go_stop, carried_on, slept, refused_at, at_the_end}
 use Rattle.machine.proofs.running.go.Goals.{in-Next, in-Skip}
 use Rattle.machine.proofs.running.go.Goals as goal
+
+pub returns-in-Err : goal.returns-in-Err
+returns-in-Err c =
+    let l = c.loop-done in
+    let words = c.args.words.now in
+    let s = state_of l.core l.stack in
+    let broke = go_stop words s l.file l.invariant.within l.invariant.bytes (rw c.in-Err.is at c.turn.ensures) (number_of c.in-Err.refusal) refl in
+    (refused_at words c.args.n _ s l.file l.done l.cycles c.loop-done-test.true l.invariant.so_far _ c.in-Err.refusal refl broke, broke.within)
 
 pub overflow_add-cycles : goal.overflow_add-cycles
 overflow_add-cycles c =
     let l = c.loop-done in
-    let went = go_on c.args.words.now (state_of l.core l.stack) l.file l.invariant.within l.invariant.bytes (rw c.in-Next.is at c.turn-r.ensures) refl in
-    let cost : c.turn-r.result.cycles ≤ 2 = went.cost in
+    let went = go_on c.args.words.now (state_of l.core l.stack) l.file l.invariant.within l.invariant.bytes (rw (c.in-Ok.is, c.in-Next.is) at c.turn.ensures) refl in
+    let cost : c.in-Ok.r.cycles ≤ 2 = went.cost in
     omega arith
 
-pub overflow_add-cycles-in-Stop : goal.overflow_add-cycles-in-Stop
-overflow_add-cycles-in-Stop c =
+pub overflow_add-result-in-Sleep : goal.overflow_add-result-in-Sleep
+overflow_add-result-in-Sleep c =
     let l = c.loop-done in
-    let broke = go_stop c.args.words.now (state_of l.core l.stack) l.file l.invariant.within l.invariant.bytes (rw c.in-Stop.is at c.turn-r.ensures) _ refl in
-    let cost : c.turn-r.result.cycles ≤ 2 = broke.cost in
+    let broke = go_stop c.args.words.now (state_of l.core l.stack) l.file l.invariant.within l.invariant.bytes (rw (c.in-Ok.is, c.in-Sleep.is) at c.turn.ensures) 1 refl in
+    let cost : c.in-Ok.r.cycles ≤ 2 = broke.cost in
     omega arith
 
-pub returns-in-Stop : goal.returns-in-Stop
-returns-in-Stop c =
+pub returns-in-Sleep : goal.returns-in-Sleep
+returns-in-Sleep c =
     let l = c.loop-done in
     let words = c.args.words.now in
     let s = state_of l.core l.stack in
-    let broke = go_stop words s l.file l.invariant.within l.invariant.bytes (rw c.in-Stop.is at c.turn-r.ensures) _ refl in
-    rw c.stopped.ensures (sym (broken_off words c.args.n _ s l.file l.done l.cycles c.loop-done-test.true l.invariant.so_far _ _ broke), broke.within)
+    let broke = go_stop words s l.file l.invariant.within l.invariant.bytes (rw (c.in-Ok.is, c.in-Sleep.is) at c.turn.ensures) 1 refl in
+    (slept words c.args.n _ s l.file l.done l.cycles c.loop-done-test.true l.invariant.so_far _ broke, broke.within)
 
 pub loop-done-preserved : goal.loop-done-preserved
 loop-done-preserved c =
     let l = c.loop-done in
-    let t = c.turn-r in
+    let t = c.turn in
     let words = c.args.words.now in
     let s = state_of l.core l.stack in
-    let moved : (k : ℕ) × (c.match-end.cycles ≡ l.cycles + k) × GoesOn words s l.file (record { state = state_of c.match-end.core t.new.stack; file = t.new.file; cycles = k; sign = on }) =
-    elim c.match-end.branch [
-      | in-Next w ↦ (t.result.cycles, w.cycles-is, rw w.core-is (go_on words s l.file l.invariant.within l.invariant.bytes (rw w.in-Next.is at t.ensures) refl))
-      | in-Skip w ↦ (2, w.cycles-is, rw (w.core-is, w.past-core.ensures) (go_on words s l.file l.invariant.within l.invariant.bytes (rw w.in-Skip.is at t.ensures) refl))
+    let moved : (k : ℕ) × (c.match-r.cycles ≡ l.cycles + k) × GoesOn words s l.file (record { state = state_of c.match-r.core t.new.stack; file = t.new.file; cycles = k; sign = on }) =
+    elim c.match-r.branch [
+      | in-Next w ↦ (c.in-Ok.r.cycles, w.cycles-is, rw w.core-is (go_on words s l.file l.invariant.within l.invariant.bytes (rw (c.in-Ok.is, w.in-Next.is) at t.ensures) refl))
+      | in-Skip w ↦ (2, w.cycles-is, rw (w.core-is, w.past-core.ensures) (go_on words s l.file l.invariant.within l.invariant.bytes (rw (c.in-Ok.is, w.in-Skip.is) at t.ensures) refl))
     ] in
     let (k, spent, went) = moved in
     record {
       bytes = went.bytes;
       within = went.within;
-      not_past = omega arith;
       cost = omega (arith, spent, went.cost);
-      so_far = rw spent (carried_on words c.args.n _ s l.file l.done l.cycles c.loop-done-test.true l.invariant.so_far (record { state = state_of c.match-end.core t.new.stack; file = t.new.file; cycles = k; sign = on }) went);
+      so_far = rw spent (carried_on words c.args.n _ s l.file l.done l.cycles c.loop-done-test.true l.invariant.so_far (record { state = state_of c.match-r.core t.new.stack; file = t.new.file; cycles = k; sign = on }) went);
     }
 
 pub returns : goal.returns
 returns c =
     let l = c.loop-done in
-    (sym (at_the_end c.args.words.now c.args.n _ (state_of l.core l.stack) l.file l.done l.cycles c.loop-done-test.false l.invariant.so_far l.invariant.not_past), l.invariant.within)
+    (at_the_end c.args.words.now c.args.n _ (state_of l.core l.stack) l.file l.done l.cycles (omega arith) l.invariant.so_far, l.invariant.within)

@@ -10,11 +10,7 @@ invariant-loop-done l =
     record {
       bytes : length l.file ≡ 512;
       within : Within (state_of l.core l.stack);
-      not_past : l.done ≤ l.n;
       cost : l.cycles ≤ 2 * l.done;
       so_far : steps_of l.words l.n (state_of l.fn.c l.fn.stack) l.fn.file
           ≡ after l.done l.cycles (steps_of l.words (l.n - l.done) (state_of l.core l.stack) l.file);
     }
-
-abbrev pub decreases-loop-done : goal.decreases-loop-done
-decreases-loop-done l = l.n - l.done
