@@ -36,6 +36,14 @@ const MOVLW_5: u16 = 0x3005;
 
 const RETLW_5: u16 = 0x3405;
 
+// What a case starts from, but for what it names.
+const GIVEN: State = State {
+    w: 90,
+    counter: 0,
+    depth: 1,
+    stack: [7, 0, 0, 0, 0, 0, 0, 9],
+};
+
 pub fn answers(rt: &impl Print) -> io::Result<()> {
     all_done(rt)?;
     asleep(rt)?;
@@ -52,120 +60,98 @@ pub fn answers(rt: &impl Print) -> io::Result<()> {
 
 // 0: n instructions.
 fn all_done(rt: &impl Print) -> io::Result<()> {
-    tried(rt, b"all n", &[MOVWF_20, MOVLW_5], given(), 2)
+    tried(rt, "all n", &[MOVWF_20, MOVLW_5], GIVEN, 2)
 }
 
 // 1: SLEEP ends the run, also as the last of n, and a later run goes on behind it.
 fn asleep(rt: &impl Print) -> io::Result<()> {
     let words = [MOVWF_20, SLEEP, MOVLW_5];
-    tried(rt, b"SLEEP before n", &words, given(), 3)?;
+    tried(rt, "SLEEP before n", &words, GIVEN, 3)?;
     let mut file = marked();
-    let state = tried_on(rt, b"SLEEP as n", &words, &mut file, given(), 2)?;
-    tried_on(rt, b"later run", &words, &mut file, state, 1)?;
+    let state = tried_on(rt, "SLEEP as n", &words, &mut file, GIVEN, 2)?;
+    tried_on(rt, "later run", &words, &mut file, state, 1)?;
     Ok(())
 }
 
 // 2: the file's bytes, or the words. 8,192 are run, and the first follows the last.
 fn sizes(rt: &impl Print) -> io::Result<()> {
     let mut short = [17u8; 511];
-    tried_on(rt, b"511 bytes", &[MOVWF_20], &mut short, given(), 1)?;
+    tried_on(rt, "511 bytes", &[MOVWF_20], &mut short, GIVEN, 1)?;
     let mut long = [17u8; 513];
-    tried_on(rt, b"513 bytes", &[MOVWF_20], &mut long, given(), 1)?;
+    tried_on(rt, "513 bytes", &[MOVWF_20], &mut long, GIVEN, 1)?;
     let words = [MOVWF_20; 8193];
-    tried(rt, b"0 words", &words[..0], given(), 1)?;
-    tried(rt, b"8193 words", &words, given(), 1)?;
-    tried(rt, b"8192 words", &words[..8192], at(8191), 1)
+    tried(rt, "0 words", &words[..0], GIVEN, 1)?;
+    tried(rt, "8193 words", &words, GIVEN, 1)?;
+    tried(rt, "8192 words", &words[..8192], at(8191), 1)
 }
 
 // 3: counter, depth and any stack entry. The largest that fit are run.
 fn states(rt: &impl Print) -> io::Result<()> {
-    tried(rt, b"counter 8192", &[MOVWF_20], at(8192), 1)?;
-    tried(rt, b"depth 9", &[MOVWF_20], deep(9, 9), 1)?;
-    tried(rt, b"entry 8192 at depth 0", &[MOVWF_20], deep(0, 8192), 1)?;
-    tried(rt, b"depth 8, entry 8191", &[MOVWF_20], deep(8, 8191), 1)
+    tried(rt, "counter 8192", &[MOVWF_20], at(8192), 1)?;
+    tried(rt, "depth 9", &[MOVWF_20], deep(9, 9), 1)?;
+    tried(rt, "entry 8192 at depth 0", &[MOVWF_20], deep(0, 8192), 1)?;
+    tried(rt, "depth 8, entry 8191", &[MOVWF_20], deep(8, 8191), 1)
 }
 
 // 4: n. The largest that fits is run.
 fn too_many(rt: &impl Print) -> io::Result<()> {
-    tried(rt, b"n 1000001", &[SLEEP], given(), 1000001)?;
-    tried(rt, b"n 1000000", &[SLEEP], given(), 1000000)
+    tried(rt, "n 1000001", &[SLEEP], GIVEN, 1000001)?;
+    tried(rt, "n 1000000", &[SLEEP], GIVEN, 1000000)
 }
 
 // 2 before 3 before 4.
 fn first_of_several(rt: &impl Print) -> io::Result<()> {
     let mut short = [17u8; 511];
-    tried_on(rt, b"2, 3 and 4", &[SLEEP], &mut short, at(8192), 1000001)?;
-    tried(rt, b"3 and 4", &[SLEEP], at(8192), 1000001)
+    tried_on(rt, "2, 3 and 4", &[SLEEP], &mut short, at(8192), 1000001)?;
+    tried(rt, "3 and 4", &[SLEEP], at(8192), 1000001)
 }
 
 // 5: the words end, after two instructions or at once. With n = 0 there is none to look for.
 fn past_the_words(rt: &impl Print) -> io::Result<()> {
     let words = [MOVWF_20, MOVLW_5];
-    tried(rt, b"off the end", &words, given(), 3)?;
-    tried(rt, b"past the words", &words, at(2), 1)?;
-    tried(rt, b"past the words, n 0", &words, at(2), 0)
+    tried(rt, "off the end", &words, GIVEN, 3)?;
+    tried(rt, "past the words", &words, at(2), 1)?;
+    tried(rt, "past the words, n 0", &words, at(2), 0)
 }
 
 // 6: all before is kept, and no more.
 fn undefined_word(rt: &impl Print) -> io::Result<()> {
-    tried(
-        rt,
-        b"undefined word",
-        &[MOVWF_20, UNDEFINED, CLRF_20],
-        given(),
-        3,
-    )
+    let words = [MOVWF_20, UNDEFINED, CLRF_20];
+    tried(rt, "undefined word", &words, GIVEN, 3)
 }
 
 // 7: CALL 0 from depth 0.
 fn full_stack(rt: &impl Print) -> io::Result<()> {
-    tried(rt, b"ninth CALL", &[CALL_0], deep(0, 9), 9)
+    tried(rt, "ninth CALL", &[CALL_0], deep(0, 9), 9)
 }
 
 // 8: neither W nor INTCON is written.
 fn empty_stack(rt: &impl Print) -> io::Result<()> {
-    tried(rt, b"RETURN at depth 0", &[RETURN], deep(0, 9), 1)?;
-    tried(rt, b"RETLW at depth 0", &[RETLW_5], deep(0, 9), 1)?;
-    tried(rt, b"RETFIE at depth 0", &[RETFIE], deep(0, 9), 1)
+    tried(rt, "RETURN at depth 0", &[RETURN], deep(0, 9), 1)?;
+    tried(rt, "RETLW at depth 0", &[RETLW_5], deep(0, 9), 1)?;
+    tried(rt, "RETFIE at depth 0", &[RETFIE], deep(0, 9), 1)
 }
 
 // 9: PCL as the destination, by its own address or in bank 1 through FSR. To W it is not refused.
 fn counted_pcl(rt: &impl Print) -> io::Result<()> {
-    tried(rt, b"INCFSZ PCL", &[NOP, INCFSZ_PCL_1], given(), 2)?;
-    tried(rt, b"DECFSZ PCL", &[NOP, DECFSZ_PCL_1], given(), 2)?;
-    let mut pointing = given();
-    pointing.w = 0x82;
-    tried(
-        rt,
-        b"INCFSZ through FSR",
-        &[MOVWF_FSR, INCFSZ_INDF_1],
-        pointing,
-        2,
-    )?;
-    tried(rt, b"INCFSZ PCL to W", &[INCFSZ_PCL_0], given(), 1)
-}
-
-// What a case starts from, but for what it names.
-fn given() -> State {
-    State {
-        w: 90,
-        counter: 0,
-        depth: 1,
-        stack: [7, 0, 0, 0, 0, 0, 0, 9],
-    }
+    tried(rt, "INCFSZ PCL", &[NOP, INCFSZ_PCL_1], GIVEN, 2)?;
+    tried(rt, "DECFSZ PCL", &[NOP, DECFSZ_PCL_1], GIVEN, 2)?;
+    let words = [MOVWF_FSR, INCFSZ_INDF_1];
+    let pointing = State { w: 0x82, ..GIVEN };
+    tried(rt, "INCFSZ through FSR", &words, pointing, 2)?;
+    tried(rt, "INCFSZ PCL to W", &[INCFSZ_PCL_0], GIVEN, 1)
 }
 
 fn at(counter: u16) -> State {
-    let mut state = given();
-    state.counter = counter;
-    state
+    State { counter, ..GIVEN }
 }
 
 fn deep(depth: u8, last: u16) -> State {
-    let mut state = given();
-    state.depth = depth;
-    state.stack[7] = last;
-    state
+    State {
+        depth,
+        stack: [7, 0, 0, 0, 0, 0, 0, last],
+        ..GIVEN
+    }
 }
 
 fn marked() -> [u8; 512] {
@@ -174,63 +160,49 @@ fn marked() -> [u8; 512] {
     file
 }
 
-fn tried(rt: &impl Print, name: &[u8], words: &[u16], state: State, n: u32) -> io::Result<()> {
-    let mut file = marked();
-    tried_on(rt, name, words, &mut file, state, n)?;
+fn tried(rt: &impl Print, name: &str, words: &[u16], state: State, n: u32) -> io::Result<()> {
+    tried_on(rt, name, words, &mut marked(), state, n)?;
     Ok(())
 }
 
 fn tried_on(
     rt: &impl Print,
-    name: &[u8],
+    name: &str,
     words: &[u16],
     file: &mut [u8],
     state: State,
     n: u32,
 ) -> io::Result<State> {
     let ran = machine::run(words, file, state, n);
-    write_ran(rt, name, ran)?;
-    write_file(rt, file)?;
-    Ok(ran.state)
+    let number = ran.number();
+    let Ran {
+        state,
+        done,
+        cycles,
+        ..
+    } = ran;
+    print!(rt; "{name}: {number} done {done} cycles {cycles}")?;
+    show_state(rt, state)?;
+    show_file(rt, file)?;
+    Ok(state)
 }
 
-fn write_ran(rt: &impl Print, name: &[u8], ran: Ran) -> io::Result<()> {
-    rt.write_all(name)?;
-    write(rt, b": ", ran.number() as u64)?;
-    write(rt, b" done ", ran.done as u64)?;
-    write(rt, b" cycles ", ran.cycles as u64)?;
-    let state = ran.state;
-    let stack = state.stack;
-    write(rt, b" W ", state.w as u64)?;
-    write(rt, b" counter ", state.counter as u64)?;
-    write(rt, b" depth ", state.depth as u64)?;
-    write_entry(rt, b" stack ", stack[0])?;
-    write_entry(rt, b" ", stack[7])
+fn show_state(rt: &impl Print, state: State) -> io::Result<()> {
+    let State {
+        w,
+        counter,
+        depth,
+        stack: [first, .., last],
+    } = state;
+    print!(rt; " W {w} counter {counter} depth {depth} stack {first} {last}")
 }
 
-fn write_file(rt: &impl Print, file: &[u8]) -> io::Result<()> {
-    write_byte(rt, b" STATUS ", file, 0x03)?;
-    write_byte(rt, b" INTCON ", file, 0x0B)?;
-    write_byte(rt, b" 0x20 ", file, 0x20)?;
-    rt.write_all(b"\n")
-}
-
-fn write_entry(rt: &impl Print, name: &[u8], entry: u16) -> io::Result<()> {
-    write(rt, name, entry as u64)
-}
-
-fn write_byte(rt: &impl Print, name: &[u8], file: &[u8], place: usize) -> io::Result<()> {
-    if place < file.len() {
-        write(rt, name, wide(file[place]))?;
+// The file has another number of bytes in two of the cases.
+fn show_file(rt: &impl Print, file: &[u8]) -> io::Result<()> {
+    for (name, place) in [("STATUS", 0x03), ("INTCON", 0x0B), ("0x20", 0x20)] {
+        if let Some(byte) = file.get(place) {
+            print!(rt; " {name} {byte}")?;
+        }
     }
-    Ok(())
-}
-
-fn write(rt: &impl Print, name: &[u8], n: u64) -> io::Result<()> {
-    rt.write_all(name)?;
-    print!(rt; "{n}")
-}
-
-fn wide(x: u8) -> u64 {
-    x as u64
+    println!(rt)
 }

@@ -1,156 +1,101 @@
-// An example is run, and what the manual prints after its instruction is written as a line: the
-// instruction's text, the values, and the cycles.
+// What a run leaves, and the line that is written of it: the text of its instruction, the values that the
+// manual prints after it, and the cycles.
 use crate::before::Before;
-use crate::names::{FSR, INTCON, STATUS};
-use decoder::Instruction;
-use machine::State;
+use crate::names::{C_BIT, FSR, GIE_BIT, INTCON, PD_BIT, STATUS, TO_BIT, Z_BIT};
+use machine::Ran;
 use std::io;
 
-// The words lent to a run: room for the highest address in an example, 0x08F6.
-const WORDS: usize = 0x0900;
-
-// One instruction, among words that are NOP.
-pub fn example(rt: &impl Print, i: Instruction, before: Before, shown: &[u8]) -> io::Result<()> {
-    let word = word_of(i);
-    let state = before.state;
-    let words = words_with(word, state.counter as usize);
-    program(rt, word, &words, 1, before, shown)
+// A value that an example shows.
+#[derive(Clone, Copy, Debug)]
+pub enum Value {
+    W,
+    // The register that the example works on: f.
+    Register,
+    Fsr,
+    // That register again, where FSR points to it: (FSR).
+    Indf,
+    C,
+    Z,
+    Pc,
+    Pcl,
+    Pch,
+    Tos,
+    To,
+    Pd,
+    Gie,
+    // The run's answer.
+    Answer,
 }
 
-fn words_with(word: u16, here: usize) -> [u16; WORDS] {
-    let mut words = [0u16; WORDS];
-    if here < WORDS {
-        words[here] = word;
-    }
-    words
-}
-
-// n instructions of a program; `named` is the word whose text begins the line. `shown` has a letter for
-// each value: the manual prints at most four.
-pub fn program(
-    rt: &impl Print,
-    named: u16,
-    words: &[u16],
-    n: u32,
-    before: Before,
-    shown: &[u8],
-) -> io::Result<()> {
-    let mut file = before.file();
-    let ran = machine::run(words, &mut file, before.state, n);
-    let place = before.place;
-    let after = After {
-        state: ran.state,
-        status: file[STATUS as usize],
-        fsr: file[FSR as usize],
-        intcon: file[INTCON as usize],
-        byte: if place < 512 { file[place] } else { 0 },
-        number: ran.number(),
-    };
-    write_text(rt, named)?;
-    after.show(rt, letter(shown, 0))?;
-    after.show(rt, letter(shown, 1))?;
-    after.show(rt, letter(shown, 2))?;
-    after.show(rt, letter(shown, 3))?;
-    write_number(rt, b" cycles ", ran.cycles as u64)?;
-    rt.write_all(b"\n")
-}
-
-// The instruction's word. None of the examples' operands is too large.
-pub fn word_of(i: Instruction) -> u16 {
-    match decoder::encode(i) {
-        Ok(word) => word,
-        Err(_) => 0x3FFF,
-    }
-}
-
-#[derive(Clone, Copy)]
-struct After {
-    state: State,
-    status: u8,
-    fsr: u8,
-    intcon: u8,
-    // What is in the register that the example works on.
-    byte: u8,
-    number: u8,
+#[derive(Clone, Copy, Debug)]
+pub struct After {
+    ran: Ran,
+    file: [u8; 512],
+    // The place of the register that the example works on.
+    place: u8,
 }
 
 impl After {
-    fn show(self, rt: &impl Print, letter: u8) -> io::Result<()> {
-        let state = self.state;
-        let counter = state.counter;
-        match letter {
-            b'W' => write_byte(rt, b" W ", state.w),
-            b'f' => write_byte(rt, b" f ", self.byte),
-            b'F' => write_byte(rt, b" FSR ", self.fsr),
-            // the contents of the address in FSR
-            b'I' => write_byte(rt, b" (FSR) ", self.byte),
-            b'C' => write_bit(rt, b" C ", self.status % 2),
-            b'Z' => write_bit(rt, b" Z ", self.status / 4 % 2),
-            b'P' => write_address(rt, b" PC ", counter),
-            b'L' => write_byte(rt, b" PCL ", (counter % 256) as u8),
-            b'H' => write_byte(rt, b" PCH ", (counter / 256) as u8),
-            b'T' => write_address(rt, b" TOS ", self.top()),
-            // the bits TO, PD and GIE
-            b't' => write_bit(rt, b" TO ", self.status / 16 % 2),
-            b'p' => write_bit(rt, b" PD ", self.status / 8 % 2),
-            b'G' => write_bit(rt, b" GIE ", self.intcon / 128),
-            // the run's answer
-            b'A' => write_number(rt, b" answer ", self.number as u64),
-            _ => Ok(()),
+    // n instructions of a program are run.
+    pub fn run(words: &[u16], n: u32, before: Before) -> Self {
+        let mut file = before.file();
+        let ran = machine::run(words, &mut file, before.state, n);
+        After {
+            ran,
+            file,
+            place: before.place,
         }
     }
 
-    // The top of the stack, of which no example uses more than one place.
-    fn top(self) -> u16 {
-        let state = self.state;
-        if state.depth == 1 {
-            state.stack[0]
-        } else {
-            0xFFFF
+    // `named` is the word whose text begins the line.
+    pub fn show(&self, rt: &impl Print, named: u16, shown: &[Value]) -> io::Result<()> {
+        // The text in 14 columns: the longest has 13.
+        let mut text = [b' '; 14];
+        // Each named word is defined, and the text has room.
+        let _ = decoder::disassemble(named, &mut text);
+        rt.write_all(&text)?;
+        for value in shown {
+            self.show_value(rt, *value)?;
+        }
+        println!(rt; " cycles {}", self.ran.cycles)
+    }
+
+    fn show_value(&self, rt: &impl Print, value: Value) -> io::Result<()> {
+        let state = self.ran.state;
+        match value {
+            Value::W => print!(rt; " W 0x{:02X}", state.w),
+            Value::Register => print!(rt; " f 0x{:02X}", self.byte(self.place)),
+            Value::Fsr => print!(rt; " FSR 0x{:02X}", self.byte(FSR)),
+            Value::Indf => print!(rt; " (FSR) 0x{:02X}", self.byte(self.place)),
+            Value::C => print!(rt; " C {}", self.bit(STATUS, C_BIT)),
+            Value::Z => print!(rt; " Z {}", self.bit(STATUS, Z_BIT)),
+            Value::Pc => print!(rt; " PC 0x{:04X}", state.counter),
+            Value::Pcl => print!(rt; " PCL 0x{:02X}", state.counter % 256),
+            Value::Pch => print!(rt; " PCH 0x{:02X}", state.counter / 256),
+            Value::Tos => match self.top() {
+                Some(top) => print!(rt; " TOS 0x{top:04X}"),
+                None => print!(rt; " TOS none"),
+            },
+            Value::To => print!(rt; " TO {}", self.bit(STATUS, TO_BIT)),
+            Value::Pd => print!(rt; " PD {}", self.bit(STATUS, PD_BIT)),
+            Value::Gie => print!(rt; " GIE {}", self.bit(INTCON, GIE_BIT)),
+            Value::Answer => print!(rt; " answer {}", self.ran.number()),
         }
     }
-}
 
-fn letter(shown: &[u8], i: usize) -> u8 {
-    if i < shown.len() { shown[i] } else { b' ' }
-}
+    fn byte(&self, place: u8) -> u8 {
+        self.file[usize::from(place)]
+    }
 
-// The text in 14 columns: the longest has 13.
-fn write_text(rt: &impl Print, word: u16) -> io::Result<()> {
-    let mut text = [b' '; 14];
-    let _ = decoder::disassemble(word, &mut text);
-    rt.write_all(&text)
-}
+    // A bit as the 0 or 1 that is printed.
+    fn bit(&self, place: u8, bit: u8) -> u8 {
+        u8::from(self.byte(place) & bit != 0)
+    }
 
-fn write_byte(rt: &impl Print, name: &[u8], x: u8) -> io::Result<()> {
-    rt.write_all(name)?;
-    rt.write_all(b"0x")?;
-    write_digits(rt, x)
-}
-
-fn write_address(rt: &impl Print, name: &[u8], a: u16) -> io::Result<()> {
-    rt.write_all(name)?;
-    rt.write_all(b"0x")?;
-    write_digits(rt, (a / 256) as u8)?;
-    write_digits(rt, (a % 256) as u8)
-}
-
-fn write_bit(rt: &impl Print, name: &[u8], x: u8) -> io::Result<()> {
-    write_number(rt, name, x as u64)
-}
-
-fn write_number(rt: &impl Print, name: &[u8], n: u64) -> io::Result<()> {
-    rt.write_all(name)?;
-    print!(rt; "{n}")
-}
-
-fn write_digits(rt: &impl Print, x: u8) -> io::Result<()> {
-    let digits = [digit(x / 16), digit(x % 16)];
-    rt.write_all(&digits)
-}
-
-// A hexadecimal digit, in capitals as the manual has them.
-fn digit(x: u8) -> u8 {
-    let n = x % 16;
-    if n < 10 { b'0' + n } else { b'A' - 10 + n }
+    // The return address that was pushed last.
+    fn top(&self) -> Option<u16> {
+        let state = self.ran.state;
+        let below = state.depth.checked_sub(1)?;
+        state.stack.get(usize::from(below)).copied()
+    }
 }

@@ -7,14 +7,14 @@ use machine::State;
 // FSR in every example that goes through it. IRP is 0, so this is also the byte's place in the file.
 const POINTER: u8 = 0xC2;
 
-#[derive(Clone, Copy)]
+#[derive(Clone, Copy, Debug)]
 pub struct Before {
     pub state: State,
     status: u8,
     fsr: u8,
     pclath: u8,
-    // The register that the example works on: its place in the file and its byte.
-    pub place: usize,
+    // The register that the example works on: its place in the file, which is in bank 0 or 1, and its byte.
+    pub place: u8,
     byte: u8,
 }
 
@@ -25,30 +25,33 @@ pub fn only_w(w: u8, status: u8) -> Before {
 
 // The byte is in REG.
 pub fn direct(w: u8, status: u8, byte: u8) -> Before {
-    register(w, status, REG as usize, byte)
+    register(w, status, REG, byte)
 }
 
 // The byte is in FSR.
 pub fn with_fsr(w: u8, status: u8, byte: u8) -> Before {
-    let mut before = register(w, status, FSR as usize, byte);
-    before.fsr = byte;
-    before
+    Before {
+        fsr: byte,
+        ..register(w, status, FSR, byte)
+    }
 }
 
 // The byte is where FSR points.
 pub fn indirect(w: u8, status: u8, byte: u8) -> Before {
-    let mut before = register(w, status, POINTER as usize, byte);
-    before.fsr = POINTER;
-    before
+    Before {
+        fsr: POINTER,
+        ..register(w, status, POINTER, byte)
+    }
 }
 
 // The byte is at a place of the file.
-pub fn register(w: u8, status: u8, place: usize, byte: u8) -> Before {
-    let mut state = State::blank();
-    state.w = w;
-    state.counter = HERE;
+pub fn register(w: u8, status: u8, place: u8, byte: u8) -> Before {
     Before {
-        state,
+        state: State {
+            w,
+            counter: HERE,
+            ..State::blank()
+        },
         status,
         fsr: 0,
         pclath: 0,
@@ -60,38 +63,33 @@ pub fn register(w: u8, status: u8, place: usize, byte: u8) -> Before {
 impl Before {
     // The instruction stands at another address.
     pub fn at(self, counter: u16) -> Self {
-        let mut state = self.state;
-        state.counter = counter;
-        let mut before = self;
-        before.state = state;
-        before
+        let state = State {
+            counter,
+            ..self.state
+        };
+        Before { state, ..self }
     }
 
     // The stack has one address.
     pub fn called(self) -> Self {
-        let mut state = self.state;
-        state.depth = 1;
-        state.stack[0] = TOS;
-        let mut before = self;
-        before.state = state;
-        before
+        let state = State {
+            depth: 1,
+            stack: [TOS, 0, 0, 0, 0, 0, 0, 0],
+            ..self.state
+        };
+        Before { state, ..self }
     }
 
     pub fn latched(self, pclath: u8) -> Self {
-        let mut before = self;
-        before.pclath = pclath;
-        before
+        Before { pclath, ..self }
     }
 
     pub fn file(self) -> [u8; 512] {
         let mut file = State::blank_file();
-        file[STATUS as usize] = self.status;
-        file[FSR as usize] = self.fsr;
-        file[PCLATH as usize] = self.pclath;
-        let place = self.place;
-        if place < 512 {
-            file[place] = self.byte;
-        }
+        file[usize::from(STATUS)] = self.status;
+        file[usize::from(FSR)] = self.fsr;
+        file[usize::from(PCLATH)] = self.pclath;
+        file[usize::from(self.place)] = self.byte;
         file
     }
 }

@@ -8,46 +8,56 @@ mod after;
 mod before;
 mod bit_oriented;
 mod byte_oriented;
+mod example;
 mod literal_and_control;
 mod names;
 
+use example::Example;
 use std::io;
 
 fn main(rt: HostRuntime) -> io::Result<()> {
-    byte_oriented::clrf_status(&rt)?;
-    literal_and_control::addlw(&rt)?;
-    byte_oriented::addwf(&rt)?;
-    literal_and_control::andlw(&rt)?;
-    byte_oriented::andwf(&rt)?;
-    bit_oriented::bcf(&rt)?;
-    bit_oriented::bsf(&rt)?;
-    bit_oriented::btfsc(&rt)?;
-    bit_oriented::btfss(&rt)?;
-    literal_and_control::call(&rt)?;
-    byte_oriented::clrf(&rt)?;
-    byte_oriented::clrw(&rt)?;
-    literal_and_control::clrwdt(&rt)?;
-    byte_oriented::comf(&rt)?;
-    byte_oriented::decf(&rt)?;
-    byte_oriented::decfsz(&rt)?;
-    literal_and_control::goto(&rt)?;
-    byte_oriented::incf(&rt)?;
-    byte_oriented::incfsz(&rt)?;
-    literal_and_control::iorlw(&rt)?;
-    byte_oriented::iorwf(&rt)?;
-    literal_and_control::movlw(&rt)?;
-    byte_oriented::movf(&rt)?;
-    byte_oriented::movwf(&rt)?;
-    byte_oriented::nop(&rt)?;
-    literal_and_control::retfie(&rt)?;
+    show(&rt, &byte_oriented::clrf_status())?;
+    show(&rt, &literal_and_control::addlw())?;
+    show(&rt, &byte_oriented::addwf())?;
+    show(&rt, &literal_and_control::andlw())?;
+    show(&rt, &byte_oriented::andwf())?;
+    show(&rt, &bit_oriented::bcf())?;
+    show(&rt, &bit_oriented::bsf())?;
+    show(&rt, &bit_oriented::btfsc())?;
+    show(&rt, &bit_oriented::btfss())?;
+    show(&rt, &literal_and_control::call())?;
+    show(&rt, &byte_oriented::clrf())?;
+    show(&rt, &byte_oriented::clrw())?;
+    show(&rt, &literal_and_control::clrwdt())?;
+    show(&rt, &byte_oriented::comf())?;
+    show(&rt, &byte_oriented::decf())?;
+    show(&rt, &byte_oriented::decfsz())?;
+    show(&rt, &literal_and_control::goto())?;
+    show(&rt, &byte_oriented::incf())?;
+    show(&rt, &byte_oriented::incfsz())?;
+    show(&rt, &literal_and_control::iorlw())?;
+    show(&rt, &byte_oriented::iorwf())?;
+    show(&rt, &literal_and_control::movlw())?;
+    show(&rt, &byte_oriented::movf())?;
+    show(&rt, &byte_oriented::movwf())?;
+    show(&rt, &byte_oriented::nop())?;
+    show(&rt, &literal_and_control::retfie())?;
     literal_and_control::retlw(&rt)?;
-    literal_and_control::return_to_caller(&rt)?;
-    byte_oriented::rlf(&rt)?;
-    byte_oriented::rrf(&rt)?;
-    literal_and_control::sleep(&rt)?;
-    literal_and_control::sublw(&rt)?;
-    byte_oriented::subwf(&rt)?;
-    byte_oriented::swapf(&rt)?;
-    literal_and_control::xorlw(&rt)?;
-    byte_oriented::xorwf(&rt)
+    show(&rt, &literal_and_control::return_to_caller())?;
+    show(&rt, &byte_oriented::rlf())?;
+    show(&rt, &byte_oriented::rrf())?;
+    show(&rt, &literal_and_control::sleep())?;
+    show(&rt, &literal_and_control::sublw())?;
+    show(&rt, &byte_oriented::subwf())?;
+    show(&rt, &byte_oriented::swapf())?;
+    show(&rt, &literal_and_control::xorlw())?;
+    show(&rt, &byte_oriented::xorwf())
+}
+
+// The examples of a page, in a line each.
+fn show(rt: &impl Print, page: &[Example]) -> io::Result<()> {
+    for example in page {
+        example.show(rt)?;
+    }
+    Ok(())
 }

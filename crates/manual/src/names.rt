@@ -1,10 +1,10 @@
 // The manual's names. Where section 29.5 gives no address for one, this file chooses it.
 use decoder::Dest;
 
-// d, as the assembler has it for 0 and 1.
-pub const W: Dest = Dest::W;
+// d: 0, the result goes to W, and 1, to f.
+pub const TO_W: Dest = Dest::W;
 
-pub const F: Dest = Dest::File;
+pub const TO_F: Dest = Dest::File;
 
 // Registers, by their f.
 pub const INDF: u8 = 0x00;
@@ -25,13 +25,18 @@ pub const INTCON: u8 = 0x0B;
 pub const REG: u8 = 0x20;
 
 // Bits of STATUS, in their places.
-pub const C: u8 = 0x01;
+pub const C_BIT: u8 = 0x01;
 
-pub const Z: u8 = 0x04;
+pub const Z_BIT: u8 = 0x04;
 
-pub const PD: u8 = 0x08;
+pub const PD_BIT: u8 = 0x08;
 
-pub const RP0: u8 = 0x20;
+pub const TO_BIT: u8 = 0x10;
+
+pub const RP0_BIT: u8 = 0x20;
+
+// A bit of INTCON, in its place.
+pub const GIE_BIT: u8 = 0x80;
 
 // The literals MYREG and HIGH (LU_TABLE): printed 0x37, and 0x9375 of which this is the high byte.
 pub const MYREG: u8 = 0x37;
