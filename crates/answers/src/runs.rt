@@ -197,7 +197,7 @@ fn show_state(rt: &impl Print, state: State) -> io::Result<()> {
     print!(rt; " W {w} counter {counter} depth {depth} stack {first} {last}")
 }
 
-// The file has another number of bytes in two of the cases.
+// The file has another number of bytes in three of the cases.
 fn show_file(rt: &impl Print, file: &[u8]) -> io::Result<()> {
     for (name, place) in [("STATUS", 0x03), ("INTCON", 0x0B), ("0x20", 0x20)] {
         if let Some(byte) = file.get(place) {

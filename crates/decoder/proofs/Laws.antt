@@ -6,15 +6,17 @@ use Prim.Native.Nat.{ℕ, ◌-◌, ◌≤◌, ◌<◌}
 use native.Mathlib.Omega.{arith}
 use lib.Dec.{ltb}
 use lib.ListN.{length, length-append, drop}
-use borrow.Author.Tests.{ltb-true, ltb-false}
+use borrow.Author.Tests.{ltb-true, ltb-false, le-ltb}
 use Rattle.decoder.specs.declared.instruction.Instruction.{Instruction}
-use Rattle.std.specs.Prelude.{Ok}
+use Rattle.std.specs.Prelude.{Result, Ok, Err, IsOk}
+use Rattle.std.proofs.Common.{rules}
+use Rattle.decoder.specs.declared.refusal.Refusal.{Refusal}
 use Rattle.decoder.specs.Table.{Answer, decode_of, x_of, undefined_of}
 use Rattle.decoder.specs.Table.Answer.{gives, refuses}
 use Rattle.decoder.specs.Printed.{printed_of, fit_of, InRange, word_of, encode_of}
 use Rattle.decoder.specs.Text.{text_of, Left, written, refused}
 use Rattle.decoder.specs.Listing.{list_of, listing_of}
-use Rattle.decoder.specs.Answers.{Lists}
+use Rattle.decoder.specs.Answers.{Lists, left_of}
 use Rattle.decoder.proofs.Below.{no_value}
 use Rattle.decoder.proofs.Fit.{true_fit, fit_true}
 use Rattle.decoder.proofs.Undefined.{is_refused, refused_6, undefined_exactly, over}
@@ -93,3 +95,11 @@ listing_within input before n after e = go (ltb (length before) 204800) e
     go : (t : Bool) → record { answer = gives n; bytes = after } ≡ cond t (refused 70 before) (written (listing_of input) before) → n ≤ length after
     go true e = absurd (no_value (ap (λ (l : Left). l.answer) e))
     go false e = prefix n (listing_of input) before after e
+
+-- A buffer with room for every listing is given one.
+pub listing_given : (input before after : List ℕ) (r : Result ℕ Refusal) → 204800 ≤ length before → Lists input before r after → IsOk r
+unfolding list_of
+listing_given input before after (Ok n) room e = search rules
+listing_given input before after (Err refusal) room e =
+    let wrote : left_of (Err refusal) after ≡ written (listing_of input) before = rw (le-ltb (length before) 204800 room) at e in
+    absurd (no_value (sym (ap (λ (l : Left). l.answer) wrote)))

@@ -1,4 +1,5 @@
 -- The lines of a listing and their lengths, and what an input of the right form has. Assumes nothing.
+use Rattle.std.specs.Prelude.{codes}
 use mathlib.Core.Path.{◌≡◌, refl, ap, ◌∙◌}
 use mathlib.Core.Bool.{Bool, true, false, not, ◌&&◌}
 use mathlib.Core.List.{List, [], ◌++◌, append_assoc}
@@ -13,7 +14,7 @@ use Rattle.std.proofs.lemmas.List.{get_or-take, get_or-drop}
 use Rattle.decoder.specs.declared.instruction.Instruction.{Instruction}
 use Rattle.decoder.specs.Table.{Answer, decode_of}
 use Rattle.decoder.specs.Table.Answer.{gives, refuses}
-use Rattle.decoder.specs.Text.{ascii, hex}
+use Rattle.decoder.specs.Text.{hex}
 use Rattle.decoder.specs.Listing.{shown, number_at, line_of, lines_of, word_at, length_of, kind_of, accepted_of}
 use Rattle.decoder.specs.Inner.{Words, form_of, word_in, lines_in}
 use Rattle.decoder.proofs.Below.{agree, and_left, and_right}
@@ -21,27 +22,27 @@ use Rattle.decoder.proofs.TextLength.{text_length}
 use Rattle.decoder.proofs.Writing.{hex_length}
 
 -- Four digits and a space take five bytes, and a word's text or ???? at most 13.
-number_length : (v : ℕ) → length (hex 4 v ++ ascii " ") ≡ 5
-number_length v = length-append (hex 4 v) (ascii " ") ∙ rw (hex_length 4 v)
+number_length : (v : ℕ) → length (hex 4 v ++ codes " ") ≡ 5
+number_length v = length-append (hex 4 v) (codes " ") ∙ rw (hex_length 4 v)
 
 shown_short : (x : Answer Instruction) → length (shown x) ≤ 13
 shown_short (gives i) = text_length i
 shown_short (refuses n) = lit≤ tt
 
 -- The line is its parts, one behind the other.
-in_parts : (address word : ℕ) → line_of address word ≡ (hex 4 address ++ ascii " ") ++ (hex 4 word ++ ascii " ") ++ shown (decode_of word) ++ ascii "\n"
+in_parts : (address word : ℕ) → line_of address word ≡ (hex 4 address ++ codes " ") ++ (hex 4 word ++ codes " ") ++ shown (decode_of word) ++ codes "\n"
 unfolding line_of
 in_parts address word =
-    ap (λ (t : List ℕ). t ++ shown (decode_of word) ++ ascii "\n") (append_assoc (hex 4 address ++ ascii " ") (hex 4 word) (ascii " "))
+    ap (λ (t : List ℕ). t ++ shown (decode_of word) ++ codes "\n") (append_assoc (hex 4 address ++ codes " ") (hex 4 word) (codes " "))
 
 line_length : (address word : ℕ) → length (line_of address word) ≤ 25
 line_length address word =
     let one = number_length address in
     let two = number_length word in
     let three = shown_short (decode_of word) in
-    let to_two = length-append (hex 4 address ++ ascii " ") (hex 4 word ++ ascii " ") in
-    let to_three = length-append ((hex 4 address ++ ascii " ") ++ (hex 4 word ++ ascii " ")) (shown (decode_of word)) in
-    let to_end = length-append ((hex 4 address ++ ascii " ") ++ (hex 4 word ++ ascii " ") ++ shown (decode_of word)) (ascii "\n") in
+    let to_two = length-append (hex 4 address ++ codes " ") (hex 4 word ++ codes " ") in
+    let to_three = length-append ((hex 4 address ++ codes " ") ++ (hex 4 word ++ codes " ")) (shown (decode_of word)) in
+    let to_end = length-append ((hex 4 address ++ codes " ") ++ (hex 4 word ++ codes " ") ++ shown (decode_of word)) (codes "\n") in
     rw (in_parts address word) (omega arith)
 
 pub lines_length : (n : ℕ) (words : List (List ℕ)) → length (lines_in n words) ≤ 25 * n

@@ -1,4 +1,5 @@
 -- How long a text is. Assumes nothing.
+use Rattle.std.specs.Prelude.{codes}
 use mathlib.Core.List.{◌++◌}
 use Prim.Native.Nat.{ℕ, ◌≤◌}
 use native.Mathlib.Omega.{arith}
@@ -9,7 +10,7 @@ use Rattle.decoder.specs.declared.instruction.Instruction.TheVariants.{Addwf, An
 use Rattle.decoder.specs.declared.instruction.Operands.{Operands}
 use Rattle.decoder.specs.declared.instruction.Operands.TheVariants.{None, F, FD, FB, K8, K11}
 use Rattle.decoder.specs.Printed.{printed_of, bit_of}
-use Rattle.decoder.specs.Text.{ascii, hex, operand_text, text_of}
+use Rattle.decoder.specs.Text.{hex, operand_text, text_of}
 use Rattle.decoder.proofs.Writing.{hex_length}
 
 pub mnemonic_length : (i : Instruction) → length ((printed_of i).mnemonic) ≤ 6
@@ -49,10 +50,10 @@ mnemonic_length Sleep = lit≤ tt
 mnemonic_length (Sublw k) = lit≤ tt
 mnemonic_length (Xorlw k) = lit≤ tt
 
-two : (f v : ℕ) → length (ascii " 0x" ++ hex 2 f ++ ascii "," ++ hex 1 v) ≤ 7
+two : (f v : ℕ) → length (codes " 0x" ++ hex 2 f ++ codes "," ++ hex 1 v) ≤ 7
 two f v =
-    let all = length-append (ascii " 0x" ++ hex 2 f ++ ascii ",") (hex 1 v) in
-    let front = length-append (ascii " 0x" ++ hex 2 f) (ascii ",") in
+    let all = length-append (codes " 0x" ++ hex 2 f ++ codes ",") (hex 1 v) in
+    let front = length-append (codes " 0x" ++ hex 2 f) (codes ",") in
     omega (arith, all, front, hex_length 2 f, hex_length 1 v)
 
 operand_length : (o : Operands) → length (operand_text o) ≤ 7

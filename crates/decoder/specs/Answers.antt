@@ -1,14 +1,14 @@
 -- The promises of the decoder layer's four calls. Each answer is read by document 01's numbers: 6 for an undefined word,
 -- 10 for an operand too large, 11 for a buffer too short; and 70, ours, for a listing's buffer too short. Each promise is
 -- one equation, for every input, and fixes the answer and every lent byte. Assumes nothing.
-use Rattle.std.specs.Prelude.{◌≡◌, List, ℕ, Result, Ok, Err}
+use Rattle.std.specs.Prelude.{◌≡◌, List, ℕ, Result, Ok, Err, codes}
 use Rattle.decoder.specs.declared.instruction.Instruction.{Instruction}
 use Rattle.decoder.specs.declared.refusal.Refusal.{Refusal}
 use Rattle.decoder.specs.declared.refusal.Refusal.TheVariants.{Undefined, TooLarge, ShortText, ShortListing}
 use Rattle.decoder.specs.Table.{Answer, decode_of}
 use Rattle.decoder.specs.Table.Answer.{gives, refuses}
 use Rattle.decoder.specs.Printed.{encode_of}
-use Rattle.decoder.specs.Text.{ascii, Left, disassemble_of}
+use Rattle.decoder.specs.Text.{Left, disassemble_of}
 use Rattle.decoder.specs.Listing.{list_of}
 
 -- A refusal's number.
@@ -20,10 +20,10 @@ number_of ShortListing = 70
 
 -- What a refusal says of itself.
 abbrev pub sentence_of : Refusal → List ℕ
-sentence_of Undefined = ascii "the word is none of Table 29-1's"
-sentence_of TooLarge = ascii "an operand is too large for its field"
-sentence_of ShortText = ascii "the buffer is too short for a text"
-sentence_of ShortListing = ascii "the buffer is too short for a listing"
+sentence_of Undefined = codes "the word is none of Table 29-1's"
+sentence_of TooLarge = codes "an operand is too large for its field"
+sentence_of ShortText = codes "the buffer is too short for a text"
+sentence_of ShortListing = codes "the buffer is too short for a listing"
 
 -- What a call answers, with the number in the refusal's place.
 abbrev pub answer_of : {A : Type 0} → Result A Refusal → Answer A

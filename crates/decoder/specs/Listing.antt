@@ -1,9 +1,9 @@
 -- The listing of an input, whole: document 01, "The listing". Assumes nothing.
-use Rattle.std.specs.Prelude.{Bool, cond, not, ◌&&◌, List, [], ◌++◌, ℕ, zero, suc, ◌+◌, ◌*◌, ◌/◌, ◌%◌, eqb, leb, ltb, get_or, length}
+use Rattle.std.specs.Prelude.{Bool, cond, not, ◌&&◌, List, [], ◌++◌, ℕ, zero, suc, ◌+◌, ◌*◌, ◌/◌, ◌%◌, eqb, leb, ltb, get_or, length, codes}
 use Rattle.decoder.specs.declared.instruction.Instruction.{Instruction}
 use Rattle.decoder.specs.Table.{Answer, decode_of}
 use Rattle.decoder.specs.Table.Answer.{gives, refuses}
-use Rattle.decoder.specs.Text.{ascii, hex, text_of, Left, refused, written}
+use Rattle.decoder.specs.Text.{hex, text_of, Left, refused, written}
 
 -- A two-byte number, low byte first.
 abbrev pub number_at : List ℕ → ℕ → ℕ
@@ -32,11 +32,11 @@ accepted_of input =
 -- A word's text, or ???? where it is undefined.
 abbrev pub shown : Answer Instruction → List ℕ
 shown (gives i) = text_of i
-shown (refuses n) = ascii "????"
+shown (refuses n) = codes "????"
 
 -- A line: four-digit address, four-digit word, text, with single spaces.
 unfoldable pub line_of : ℕ → ℕ → List ℕ
-line_of address word = hex 4 address ++ ascii " " ++ hex 4 word ++ ascii " " ++ shown (decode_of word) ++ ascii "\n"
+line_of address word = hex 4 address ++ codes " " ++ hex 4 word ++ codes " " ++ shown (decode_of word) ++ codes "\n"
 
 -- The lines of the first n words.
 unfoldable pub lines_of : ℕ → List ℕ → List ℕ
@@ -44,7 +44,7 @@ lines_of zero input = []
 lines_of (suc n) input = lines_of n input ++ line_of n (word_at input n)
 
 unfoldable pub listing_of : List ℕ → List ℕ
-listing_of input = cond (accepted_of input) (lines_of (length_of input / 2) input) (ascii "REFUSED\n")
+listing_of input = cond (accepted_of input) (lines_of (length_of input / 2) input) (codes "REFUSED\n")
 
 -- The listing from the buffer's start, and its length. A buffer that could not hold 8,192 lines of 25 bytes is refused
 -- first, with 70 and nothing written.

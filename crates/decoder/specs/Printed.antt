@@ -1,9 +1,7 @@
 -- Table 29-1 read from an instruction to what the table prints for it: mnemonic, word, operands.
 -- Document 01, "Words": what the encoder writes and what it refuses. Assumes nothing.
-use Rattle.std.specs.Prelude.{Bool, true, cond, ◌&&◌, List, [], ◌∷◌, ℕ, ◌+◌, ◌*◌, ◌≤◌, leb}
+use Rattle.std.specs.Prelude.{Bool, true, cond, ◌&&◌, List, ℕ, ◌+◌, ◌*◌, ◌≤◌, leb, codes}
 use Prim.Native.String.{String}
-use Prim.Native.String as string
-use Prim.Native.Char.{code}
 use Rattle.decoder.specs.declared.instruction.Dest.{Dest}
 use Rattle.decoder.specs.declared.instruction.Dest.TheVariants.{W, File}
 use Rattle.decoder.specs.declared.instruction.Instruction.{Instruction}
@@ -13,19 +11,15 @@ use Rattle.decoder.specs.declared.instruction.Operands.TheVariants.{None, F, FD,
 use Rattle.decoder.specs.Table.{Answer}
 use Rattle.decoder.specs.Table.Answer.{gives, refuses}
 
--- A text as the numbers of its characters.
-abbrev pub ascii : String → List ℕ
-ascii string.[] = []
-ascii (string.◌∷◌ c s) = code c ∷ ascii s
-
--- A row of the table as an instruction fills it: mnemonic, word with operands and x bits 0, operands.
+-- A row of the table as an instruction fills it: mnemonic, word with operands and x bits 0, operands. `codes` of a text
+-- are its characters' numbers, in their order.
 pub record Printed : Type 0 where
   pub mnemonic : List ℕ
   pub word : ℕ
   pub operands : Operands
 
 abbrev prints : String → ℕ → Operands → Printed
-prints m w o = record { mnemonic = ascii m; word = w; operands = o }
+prints m w o = record { mnemonic = codes m; word = w; operands = o }
 
 -- Table 29-1, a line for each row, in the table's order.
 abbrev pub printed_of : Instruction → Printed

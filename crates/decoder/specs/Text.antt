@@ -1,17 +1,16 @@
 -- An instruction's text and a word's disassembly: document 01, "The listing" and the end of "Run answers".
 -- Assumes nothing.
-use Rattle.std.specs.Prelude.{cond, List, [], ◌∷◌, ◌++◌, ℕ, zero, suc, ◌/◌, ◌%◌, get_or, length, drop, ltb}
+use Rattle.std.specs.Prelude.{cond, List, [], ◌∷◌, ◌++◌, ℕ, zero, suc, ◌/◌, ◌%◌, get_or, length, drop, ltb, codes}
 use Rattle.decoder.specs.declared.instruction.Instruction.{Instruction}
 use Rattle.decoder.specs.declared.instruction.Operands.{Operands}
 use Rattle.decoder.specs.declared.instruction.Operands.TheVariants.{None, F, FD, FB, K8, K11}
 use Rattle.decoder.specs.Table.{Answer, decode_of}
 use Rattle.decoder.specs.Table.Answer.{gives, refuses}
 use Rattle.decoder.specs.Printed.{printed_of, bit_of}
-pub use Rattle.decoder.specs.Printed.{ascii}
 
 -- A digit, in capitals.
 unfoldable pub digit : ℕ → ℕ
-digit v = get_or (ascii "0123456789ABCDEF") v 0
+digit v = get_or (codes "0123456789ABCDEF") v 0
 
 -- A number in n hexadecimal digits.
 unfoldable pub hex : ℕ → ℕ → List ℕ
@@ -22,11 +21,11 @@ hex (suc n) v = hex n (v / 16) ++ (digit (v % 16) ∷ [])
 -- three; b and d in decimal, where each is one digit and so the same as in hexadecimal.
 unfoldable pub operand_text : Operands → List ℕ
 operand_text None = []
-operand_text (F f) = ascii " 0x" ++ hex 2 f
-operand_text (FD f d) = ascii " 0x" ++ hex 2 f ++ ascii "," ++ hex 1 (bit_of d)
-operand_text (FB f b) = ascii " 0x" ++ hex 2 f ++ ascii "," ++ hex 1 b
-operand_text (K8 k) = ascii " 0x" ++ hex 2 k
-operand_text (K11 k) = ascii " 0x" ++ hex 3 k
+operand_text (F f) = codes " 0x" ++ hex 2 f
+operand_text (FD f d) = codes " 0x" ++ hex 2 f ++ codes "," ++ hex 1 (bit_of d)
+operand_text (FB f b) = codes " 0x" ++ hex 2 f ++ codes "," ++ hex 1 b
+operand_text (K8 k) = codes " 0x" ++ hex 2 k
+operand_text (K11 k) = codes " 0x" ++ hex 3 k
 
 -- The mnemonic, then the operands if any.
 unfoldable pub text_of : Instruction → List ℕ

@@ -102,10 +102,7 @@ fn lowest(word: u16) -> Result<Instruction, Refusal>
     ensures { Decodes word result }
 {
     let i = match word {
-        0x0000 => Instruction::Nop,
-        0x0020 => Instruction::Nop,
-        0x0040 => Instruction::Nop,
-        0x0060 => Instruction::Nop,
+        0x0000 | 0x0020 | 0x0040 | 0x0060 => Instruction::Nop,
         0x0008 => Instruction::Return,
         0x0009 => Instruction::Retfie,
         0x0063 => Instruction::Sleep,

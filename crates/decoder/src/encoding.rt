@@ -51,5 +51,6 @@ fn fit(operand: usize, last: u16) -> Result<u16, Refusal>
     if operand > usize::from(last) {
         return Err(Refusal::TooLarge);
     }
+    // `as` is proved to lose nothing.
     Ok(operand as u16)
 }

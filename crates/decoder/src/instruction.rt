@@ -19,7 +19,7 @@ impl From<Dest> for u16 {
     }
 }
 
-// No Hash: over 35 cases it adds some 15 s to the check from nothing, and no caller asks for it.
+// Hash is left out: over 35 cases it adds some 15 s to the check.
 #[derive(Clone, Copy, Debug, PartialEq, Eq)]
 pub enum Instruction {
     // byte-oriented file register operations

@@ -9,17 +9,19 @@ use crate::refusal::Refusal;
 use crate::text::{push_hex, text_of};
 use arrayvec::ArrayString;
 
-// At most 8,192 words are listed, each in a line of at most 25 bytes.
-const MOST_BYTES: usize = 2 * 8192;
+// The most words that are listed, each in a line of at most LINE_ROOM bytes.
+const MOST_WORDS: usize = 8192;
+
+const MOST_BYTES: usize = 2 * MOST_WORDS;
 
 const LINE_ROOM: usize = 25;
 
-pub const LISTING_ROOM: usize = LINE_ROOM * 8192;
+pub const LISTING_ROOM: usize = LINE_ROOM * MOST_WORDS;
 
 // An input: a two-byte length, a two-byte kind, and that many bytes of words.
 const HEADER: usize = 4;
 
-const WORDS: u16 = 1;
+const KIND_WORDS: u16 = 1;
 
 pub const LONGEST_INPUT: usize = HEADER + MOST_BYTES;
 
@@ -58,7 +60,7 @@ fn words_of(input: &[u8]) -> Option<&[[u8; 2]]>
 fn is_form(length: usize, kind: u16, bytes: usize) -> bool
     ensures { result ≡ form_of length kind bytes }
 {
-    length % 2 == 0 && length != 0 && length <= MOST_BYTES && kind == WORDS && bytes == length
+    length % 2 == 0 && length != 0 && length <= MOST_BYTES && kind == KIND_WORDS && bytes == length
 }
 
 // A line for each word.
@@ -74,7 +76,8 @@ fn put_lines(words: &[[u8; 2]], out: &mut [u8]) -> usize
     end
 }
 
-// A text from `at` on. What comes back is the place behind it.
+// A text from `at` on. What comes back is the place behind it: the buffer is the caller's, and `Lists` names its bytes,
+// so that the place is carried beside it.
 fn put(text: &[u8], out: &mut [u8], at: usize) -> usize
     requires { at + length text.now ≤ length out.old }
     ensures { Wrote out.old out.new at result text.now }

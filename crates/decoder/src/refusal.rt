@@ -25,6 +25,7 @@ impl From<Refusal> for u8 {
     }
 }
 
+// By hand, since what a derive of thiserror prints has no contract.
 impl fmt::Display for Refusal {
     ghost output = { λ refusal. Some (sentence_of refusal) };
 

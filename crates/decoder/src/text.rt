@@ -1,7 +1,7 @@
 // A word's text, as the listing prints it.
-ghost use Rattle.std.specs.Prelude.{◌≡◌, ◌++◌, ◌+◌, ◌≤◌, ◌%◌};
+ghost use Rattle.std.specs.Prelude.{◌≡◌, ◌++◌, ◌+◌, ◌≤◌, ◌%◌, length};
 ghost use Rattle.arrayvec.specs.ArrayString.{array_string_len};
-ghost use Rattle.decoder.specs.Text.{ascii, digit, hex, operand_text, text_of};
+ghost use Rattle.decoder.specs.Text.{digit, hex, operand_text, text_of};
 ghost use Rattle.decoder.specs.Answers.{Disassembles};
 
 use crate::decoding::decode;
@@ -29,7 +29,8 @@ pub fn disassemble(word: u16, text: &mut [u8]) -> Result<usize, Refusal>
     Ok(shown.len())
 }
 
-// The instruction's text.
+// The instruction's text. It is no Display: what a Formatter has written is known only where it answers Ok, and
+// `disassemble` always has its text.
 #[tactic(auto, using(crate::proofs::TextLength::mnemonic_length, crate::proofs::TextLength::text_length), unfolding(crate::specs::Text::text_of))]
 pub(crate) fn text_of(i: Instruction) -> ArrayString<TEXT_ROOM>
     ensures bytes { result.bytes ≡ text_of i }
@@ -45,45 +46,36 @@ pub(crate) fn text_of(i: Instruction) -> ArrayString<TEXT_ROOM>
 // What follows the mnemonic, if anything.
 #[tactic(auto, unfolding(crate::specs::Text::operand_text))]
 fn push_operands(text: &mut ArrayString<TEXT_ROOM>, operands: Operands)
-    requires { array_string_len text.old + 7 ≤ 14 }
+    requires { array_string_len text.old + 7 ≤ TEXT_ROOM }
     ensures { text.new.bytes ≡ text.old.bytes ++ operand_text operands }
 {
     match operands {
         Operands::None => {}
-        Operands::F(f) => push_first(text, 2, usize::from(f)),
+        Operands::F(f) => push_operand(text, " 0x", 2, usize::from(f)),
         Operands::FD(f, d) => {
-            push_first(text, 2, usize::from(f));
-            push_last(text, usize::from(u16::from(d)));
+            push_operand(text, " 0x", 2, usize::from(f));
+            push_operand(text, ",", 1, usize::from(u16::from(d)));
         }
         Operands::FB(f, b) => {
-            push_first(text, 2, usize::from(f));
-            push_last(text, usize::from(b));
+            push_operand(text, " 0x", 2, usize::from(f));
+            push_operand(text, ",", 1, usize::from(b));
         }
-        Operands::K8(k) => push_first(text, 2, usize::from(k)),
-        Operands::K11(k) => push_first(text, 3, k),
+        Operands::K8(k) => push_operand(text, " 0x", 2, usize::from(k)),
+        Operands::K11(k) => push_operand(text, " 0x", 3, k),
     }
 }
 
-// f or k: one space, 0x and its digits.
-fn push_first(text: &mut ArrayString<TEXT_ROOM>, digits: usize, v: usize)
-    requires { array_string_len text.old + 3 + digits ≤ 14 }
-    ensures bytes { text.new.bytes ≡ text.old.bytes ++ ascii " 0x" ++ hex digits v }
-    ensures len { array_string_len text.new ≡ array_string_len text.old + 3 + digits }
+// An operand's digits, and what stands before them.
+fn push_operand(text: &mut ArrayString<TEXT_ROOM>, before: &str, digits: usize, v: usize)
+    requires { array_string_len text.old + length before.now + digits ≤ TEXT_ROOM }
+    ensures bytes { text.new.bytes ≡ text.old.bytes ++ before.now ++ hex digits v }
+    ensures len { array_string_len text.new ≡ array_string_len text.old + length before.now + digits }
 {
-    text.push_str(" 0x");
+    text.push_str(before);
     push_hex(text, digits, v);
 }
 
-// d or b: a comma and one digit.
-fn push_last(text: &mut ArrayString<TEXT_ROOM>, v: usize)
-    requires { array_string_len text.old + 2 ≤ 14 }
-    ensures { text.new.bytes ≡ text.old.bytes ++ ascii "," ++ hex 1 v }
-{
-    text.push_str(",");
-    push_hex(text, 1, v);
-}
-
-// The lower hexadecimal digits of v, as many as are asked for.
+// The lower hexadecimal digits of v, as many as are asked for; `{:X}` gives all that v has, and might answer an Err.
 pub(crate) fn push_hex<const N: usize>(text: &mut ArrayString<N>, digits: usize, v: usize)
     requires { array_string_len text.old + digits ≤ N }
     ensures bytes { text.new.bytes ≡ text.old.bytes ++ hex digits v }

@@ -1,14 +1,13 @@
 -- Document 01, "Twelve examples to prove, as one table": a line for each; the sheet's, example 12, follows with its
 -- layer. The machine's are runs of one instruction by `run_of`, from a blank state and file but for what the example
 -- names. Assumes nothing.
-use Rattle.std.specs.Prelude.{◌≡◌, List, [], ◌∷◌, ◌++◌, ℕ, get_or, set, replicate}
+use Rattle.std.specs.Prelude.{◌≡◌, List, [], ◌∷◌, ◌++◌, ℕ, get_or, set, replicate, codes}
 use Rattle.decoder.specs.declared.instruction.Dest.TheVariants.{File}
 use Rattle.decoder.specs.declared.instruction.Instruction.{Instruction}
 use Rattle.decoder.specs.declared.instruction.Instruction.TheVariants.{Nop, Xorlw, Movlw, Btfss, Addlw, Sublw, Subwf, Rlf, Clrf, Addwf, Call}
 use Rattle.decoder.specs.Table.{decode_of}
 use Rattle.decoder.specs.Table.Answer.{gives, refuses}
 use Rattle.decoder.specs.Printed.{encode_of, word_of}
-use Rattle.decoder.specs.Text.{ascii}
 use Rattle.decoder.specs.Listing.{listing_of}
 use Rattle.alu.specs.Alu.{bit_of}
 use Rattle.machine.specs.declared.state.State.{State}
@@ -75,4 +74,4 @@ listed =
 pub record Listing : Type 0 where
   pub prints :
       listing_of listed
-      ≡ ascii "0000 0064 CLRWDT\n0001 2003 CALL 0x003\n0002 2800 GOTO 0x000\n0003 0BA0 DECFSZ 0x20,1\n0004 0008 RETURN\n0005 3400 RETLW 0x00\n"
+      ≡ codes "0000 0064 CLRWDT\n0001 2003 CALL 0x003\n0002 2800 GOTO 0x000\n0003 0BA0 DECFSZ 0x20,1\n0004 0008 RETURN\n0005 3400 RETLW 0x00\n"

@@ -1,7 +1,9 @@
 -- Each promise determines the answer and every lent byte: two answers that keep it are equal. Assumes nothing.
 use mathlib.Core.Path.{◌≡◌, refl, sym, ap, ◌∙◌}
+use mathlib.Core.Bool.{cond}
 use mathlib.Core.List.{List}
-use Prim.Native.Nat.{ℕ, zero, suc}
+use lib.Dec.{eqb}
+use Prim.Native.Nat.{ℕ}
 use Rattle.std.specs.Prelude.{Result, Ok, Err}
 use Rattle.machine.specs.declared.refusal.Refusal.{Refusal}
 use Rattle.machine.specs.declared.refusal.Refusal.TheVariants.{Sizes, State, Length, PastWords, Undefined, StackFull, StackEmpty, CountedPcl}
@@ -15,16 +17,16 @@ use Rattle.machine.specs.Answers.{told, Runs, IsBlank, IsBlankFile}
 
 -- The end that has a number; a larger number stands for none, and any will do.
 numbered : ℕ → Result Finish Refusal
-numbered zero = Ok All
-numbered (suc zero) = Ok Asleep
-numbered (suc (suc zero)) = Err Sizes
-numbered (suc (suc (suc zero))) = Err State
-numbered (suc (suc (suc (suc zero)))) = Err Length
-numbered (suc (suc (suc (suc (suc zero))))) = Err PastWords
-numbered (suc (suc (suc (suc (suc (suc zero)))))) = Err Undefined
-numbered (suc (suc (suc (suc (suc (suc (suc zero))))))) = Err StackFull
-numbered (suc (suc (suc (suc (suc (suc (suc (suc zero)))))))) = Err StackEmpty
-numbered (suc (suc (suc (suc (suc (suc (suc (suc (suc n))))))))) = Err CountedPcl
+numbered n =
+    cond (eqb n 0) (Ok All)
+    (cond (eqb n 1) (Ok Asleep)
+    (cond (eqb n 2) (Err Sizes)
+    (cond (eqb n 3) (Err State)
+    (cond (eqb n 4) (Err Length)
+    (cond (eqb n 5) (Err PastWords)
+    (cond (eqb n 6) (Err Undefined)
+    (cond (eqb n 7) (Err StackFull)
+    (cond (eqb n 8) (Err StackEmpty) (Err CountedPcl)))))))))
 
 numbered_end : (e : Result Finish Refusal) → numbered (end_number e) ≡ e
 unfolding numbered

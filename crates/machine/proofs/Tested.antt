@@ -16,19 +16,19 @@ use Rattle.machine.specs.Numbers.{number_of}
 use Rattle.machine.specs.Run.{Left, ends, steps_of, sizes_fit, state_fits, entries_fit, run_of}
 use Rattle.machine.specs.Inner.{Within, test_of}
 
--- 0 is no refusal's number.
+-- A refusal's number is 2 or more.
+pub least : (r : Refusal) → 2 ≤ number_of r
+least Sizes = omega arith
+least refusal.State = omega arith
+least Length = omega arith
+least PastWords = omega arith
+least Undefined = omega arith
+least StackFull = omega arith
+least StackEmpty = omega arith
+least CountedPcl = omega arith
+
 not_none : (r : Refusal) → number_of r ≢ 0
 not_none r h = absurd (omega (arith, h, least r))
-  where
-    least : (r : Refusal) → 2 ≤ number_of r
-    least Sizes = omega arith
-    least refusal.State = omega arith
-    least Length = omega arith
-    least PastWords = omega arith
-    least Undefined = omega arith
-    least StackFull = omega arith
-    least StackEmpty = omega arith
-    least CountedPcl = omega arith
 
 -- A run on another file than 512 bytes, or one that a test turns down, leaves everything.
 pub wrong_bytes : (words file : List ℕ) (s : State) (n : ℕ) → length file ≢ 512 → ends s file 0 0 2 ≡ run_of words file s n

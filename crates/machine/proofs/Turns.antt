@@ -9,8 +9,6 @@ use lib.ListN.{length}
 use borrow.Author.Tests.{ne_eqb}
 use Rattle.alu.specs.Alu.{to_bit}
 use Rattle.machine.specs.declared.refusal.Refusal.{Refusal}
-use Rattle.machine.specs.declared.refusal.Refusal.TheVariants as refusal
-use Rattle.machine.specs.declared.refusal.Refusal.TheVariants.{Sizes, Length, PastWords, Undefined, StackFull, StackEmpty, CountedPcl}
 use Rattle.machine.specs.declared.state.State.{State}
 use Rattle.machine.specs.Step.{Outcome, step_of}
 use Rattle.machine.specs.Step.Outcome.{done, refused}
@@ -19,6 +17,7 @@ use Rattle.machine.specs.Numbers.{number_of}
 use Rattle.machine.specs.Run.{Left, ends, after, steps_of}
 use Rattle.machine.specs.Inner.{Within, Shown, expected}
 use Rattle.machine.specs.Inner.Sign.{on, stop}
+use Rattle.machine.proofs.Tested.{least}
 use Rattle.machine.proofs.Within.{Kept, step_kept}
 
 on_stop : {q : ℕ} → on ≡ stop q → ⊥
@@ -61,14 +60,7 @@ module _ (words : List ℕ) (s : State) (file : List ℕ) (h : Within s) (bytes 
 
 -- 1 is no refusal's number.
 no_sleep : (r : Refusal) → eqb (number_of r) 1 ≡ false
-no_sleep Sizes = refl
-no_sleep refusal.State = refl
-no_sleep Length = refl
-no_sleep PastWords = refl
-no_sleep Undefined = refl
-no_sleep StackFull = refl
-no_sleep StackEmpty = refl
-no_sleep CountedPcl = refl
+no_sleep r = let two : 2 ≤ number_of r = least r in ne_eqb (number_of r) 1 (omega arith)
 
 -- Instructions and cycles add up.
 pub after_after : (n k m c : ℕ) (l : Left) → after n k (after m c l) ≡ after (n + m) (k + c) l

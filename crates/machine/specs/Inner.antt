@@ -64,6 +64,10 @@ expected s file (done s' file' k going) = record { state = s'; file = file'; cyc
 expected s file (done s' file' k cleared) = record { state = s'; file = file'; cycles = k; sign = on }
 expected s file (done s' file' k asleep) = record { state = s'; file = file'; cycles = k; sign = stop 1 }
 
+-- A step of the core c with a stack and a file does what the definition does.
+abbrev pub Steps : Core → Stack → List ℕ → Result Stepped Refusal → Stack → List ℕ → (State → List ℕ → Outcome) → Type 0
+Steps c stack file r stack' file' o = tried c r stack' file' ≡ expected (state_of c stack) file (o (state_of c stack) file)
+
 -- A function of the core and the file alone does what the definition does with any stack; one that may refuse, too.
 abbrev pub Does : Core → List ℕ → Stepped → List ℕ → (State → Outcome) → Type 0
 Does c before r after o = (stack : Stack) → shown r stack after ≡ expected (state_of c stack) before (o (state_of c stack))

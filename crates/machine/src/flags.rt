@@ -6,7 +6,8 @@ ghost use Rattle.alu.specs.Answers.{result_of, turn_of};
 ghost use Rattle.machine.specs.Registers.{flag};
 
 use crate::registers::STATUS;
-use alu::{Sum, Turned, is_zero};
+use crate::state::File;
+use alu::{Sum, Turned, is_zero, with_bit};
 
 // A byte with the flags that its operation affects.
 pub(crate) trait Flagged: Copy {
@@ -15,7 +16,7 @@ pub(crate) trait Flagged: Copy {
     fn value(self) -> u8
         ensures { result ≡ (gives self).value };
 
-    fn flag(self, file: &mut [u8; 512])
+    fn flag(self, file: &mut File)
         ensures { file.new ≡ flag (gives self).flags file.old };
 }
 
@@ -33,7 +34,7 @@ impl Flagged for Plain {
         self.0
     }
 
-    fn flag(self, _file: &mut [u8; 512]) {}
+    fn flag(self, _file: &mut File) {}
 }
 
 impl Flagged for Zeroed {
@@ -43,9 +44,8 @@ impl Flagged for Zeroed {
         self.0
     }
 
-    fn flag(self, file: &mut [u8; 512]) {
-        let s = file[STATUS];
-        file[STATUS] = s / 8 * 8 + u8::from(is_zero(self.0)) * 4 + s % 4;
+    fn flag(self, file: &mut File) {
+        file[STATUS] = with_bit(file[STATUS], 2, is_zero(self.0));
     }
 }
 
@@ -56,9 +56,8 @@ impl Flagged for Turned {
         self.value
     }
 
-    fn flag(self, file: &mut [u8; 512]) {
-        let s = file[STATUS];
-        file[STATUS] = s / 2 * 2 + u8::from(self.carry);
+    fn flag(self, file: &mut File) {
+        file[STATUS] = with_bit(file[STATUS], 0, self.carry);
     }
 }
 
@@ -69,7 +68,8 @@ impl Flagged for Sum {
         self.value
     }
 
-    fn flag(self, file: &mut [u8; 512]) {
+    fn flag(self, file: &mut File) {
+        // The three lowest bits at once, as `flag` has them.
         let s = file[STATUS];
         file[STATUS] = s / 8 * 8
             + u8::from(is_zero(self.value)) * 4

@@ -4,6 +4,7 @@ ghost use Rattle.machine.specs.Registers.{address_of, place_of, place_at, read_a
 ghost use Rattle.machine.specs.Inner.{Found};
 
 use crate::place::{Operand, Place};
+use crate::state::File;
 
 pub(crate) const STATUS: usize = 0x03;
 
@@ -18,7 +19,7 @@ const FIRST_PLAIN: usize = 0x0C;
 const FIRST_SHARED: usize = 0x70;
 
 // The operand f of an instruction at the counter.
-pub(crate) fn operand_at(file: &[u8; 512], f: u8, counter: usize) -> Operand
+pub(crate) fn operand_at(file: &File, f: u8, counter: usize) -> Operand
     requires { f ≤ 127 }
     ensures { Found file.now f counter result }
 {
@@ -29,9 +30,10 @@ pub(crate) fn operand_at(file: &[u8; 512], f: u8, counter: usize) -> Operand
     }
 }
 
-// The place of the register f: first the plain ones, which are most.
+// The place of the register f: first the plain ones, which are most. That it lies inside the file is said here and at
+// `load`, since the operand that says it from then on is made of both.
 #[tactic(auto, using(crate::proofs::Places::plain_register, crate::proofs::Places::upper_register, crate::proofs::Places::inside))]
-fn place_at(file: &[u8; 512], f: u8) -> Place
+fn place_at(file: &File, f: u8) -> Place
     requires { f ≤ 127 }
     ensures { (result ≡ place_at file.now f) × (cell_of result < 512) }
 {
@@ -48,7 +50,7 @@ fn place_at(file: &[u8; 512], f: u8) -> Place
 
 // The nine-bit address of f: direct by RP1 and RP0, or where f is 0 indirect by IRP and FSR.
 #[tactic(auto, unfolding(crate::specs::Registers::address_of))]
-fn address(file: &[u8; 512], f: u8) -> usize
+fn address(file: &File, f: u8) -> usize
     ensures { result ≡ address_of file.now f }
 {
     if f == 0 {
@@ -59,7 +61,7 @@ fn address(file: &[u8; 512], f: u8) -> usize
 }
 
 // Where the bank of RP1 and RP0 begins.
-fn bank(file: &[u8; 512]) -> usize
+fn bank(file: &File) -> usize
     ensures { result ≡ get_or file.now STATUS 0 / 32 % 4 * 128 }
 {
     usize::from(file[STATUS]) / 32 % 4 * 128
@@ -90,7 +92,7 @@ fn led_to(a: usize) -> Place
 }
 
 // The byte that an instruction at the counter reads.
-fn load(file: &[u8; 512], p: Place, counter: usize) -> u8
+fn load(file: &File, p: Place, counter: usize) -> u8
     requires { cell_of p < 512 }
     ensures { result ≡ read_at counter file.now p }
 {
@@ -103,7 +105,7 @@ fn load(file: &[u8; 512], p: Place, counter: usize) -> u8
 }
 
 // A byte to its place. One for PCL has no cell: it goes to the counter.
-pub(crate) fn store(file: &mut [u8; 512], o: Operand, v: u8)
+pub(crate) fn store(file: &mut File, o: Operand, v: u8)
     ensures { file.new ≡ write_at file.old o.place v }
 {
     match o.place {

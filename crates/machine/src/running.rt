@@ -4,11 +4,11 @@ ghost use Rattle.machine.specs.Step.{step_of};
 ghost use Rattle.machine.specs.Run.{entries_fit, state_fits, steps_of, run_of};
 ghost use Rattle.machine.specs.Numbers.{end_number};
 ghost use Rattle.machine.specs.Answers.{Runs};
-ghost use Rattle.machine.specs.Inner.{Within, state_of, tried, expected, test_of, test_answer, told_by, left_by};
+ghost use Rattle.machine.specs.Inner.{Within, Steps, state_of, test_of, test_answer, told_by, left_by};
 
 use crate::refusal::Refusal;
 use crate::stack::Stack;
-use crate::state::{Core, State};
+use crate::state::{Core, File, State};
 use crate::step::{End, Stepped, step};
 
 // How a run ends that nothing stops: all n are done, or the last one done is SLEEP.
@@ -54,6 +54,7 @@ pub fn run(words: &[u16], file: &mut [u8], state: State, n: u32) -> Ran
     }
 }
 
+// The run, where no test turns it down.
 #[tactic(auto, using(crate::proofs::Tested::wrong_bytes, crate::proofs::Tested::turned_down))]
 fn admitted(words: &[u16], file: &mut [u8], state: State, n: u32) -> Result<Ran, Refusal>
     ensures { record { ran = told_by state result; file = file.new } ≡ run_of words.now file.old state n }
@@ -62,6 +63,7 @@ fn admitted(words: &[u16], file: &mut [u8], state: State, n: u32) -> Result<Ran,
         .as_mut_array::<{ State::BYTES }>()
         .ok_or(Refusal::Sizes)?;
     tested(words.len(), state, n)?;
+    // An array goes through a variable, here and below: straight from a field the borrow checker does not cover it.
     let entries = state.stack;
     let mut stack = Stack {
         entries,
@@ -117,7 +119,7 @@ fn entries_fit(stack: [u16; 8]) -> bool
     stack.iter().all(|&entry| entry <= State::LAST)
 }
 
-// What the loop leaves beside the stack and the file.
+// What the loop leaves beside the stack and the file. A `Ran` would have the stack within.
 #[derive(Clone, Copy)]
 pub(crate) struct Gone {
     pub(crate) core: Core,
@@ -128,7 +130,7 @@ pub(crate) struct Gone {
 
 // n instructions, or those before the one that stops the run. SLEEP counts as done; a refused
 // instruction does not.
-fn go(c: Core, stack: &mut Stack, words: &[u16], file: &mut [u8; 512], n: u32) -> Gone
+fn go(c: Core, stack: &mut Stack, words: &[u16], file: &mut File, n: u32) -> Gone
     requires { Within (state_of c stack.old) × (n ≤ 1000000) }
     ensures { (left_by result stack.new file.new ≡ steps_of words.now n (state_of c stack.old) file.old) × Within (state_of result.core stack.new) }
 {
@@ -175,8 +177,8 @@ fn go(c: Core, stack: &mut Stack, words: &[u16], file: &mut [u8; 512], n: u32) -
 
 // The instruction at the counter, or why there is none.
 #[tactic(auto, using(crate::proofs::Words::past_words, crate::proofs::Words::word_done, crate::proofs::Words::word_undefined, decoder::proofs::Laws::operands_in_range))]
-fn turn(c: Core, stack: &mut Stack, words: &[u16], file: &mut [u8; 512]) -> Result<Stepped, Refusal>
-    ensures { tried c result stack.new file.new ≡ expected (state_of c stack.old) file.old (step_of words.now (state_of c stack.old) file.old) }
+fn turn(c: Core, stack: &mut Stack, words: &[u16], file: &mut File) -> Result<Stepped, Refusal>
+    ensures { Steps c stack.old file.old result stack.new file.new (step_of words.now) }
 {
     let word = words.get(c.counter).ok_or(Refusal::PastWords)?;
     let i = decoder::decode(*word).map_err(|_| Refusal::Undefined)?;

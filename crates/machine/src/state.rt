@@ -1,5 +1,5 @@
-// The machine's state: document 01, "Run answers". It goes in by value and comes back by value. Its
-// limits and its blank start belong to its own type.
+// The machine's state: document 01, "Run answers", which names its parts. It goes in by value and comes back by value.
+// Its limits and its blank start belong to its own type.
 ghost use Rattle.std.specs.Prelude.{◌≡◌};
 ghost use Rattle.machine.specs.State.{plus};
 ghost use Rattle.machine.specs.Answers.{IsBlank, IsBlankFile};
@@ -50,6 +50,9 @@ pub(crate) struct Core {
     pub(crate) w: u8,
     pub(crate) counter: usize,
 }
+
+// The file's bytes, once it is known that it has as many as it must.
+pub(crate) type File = [u8; State::BYTES];
 
 // The address after a.
 pub(crate) fn after(a: usize) -> usize

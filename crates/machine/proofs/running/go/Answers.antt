@@ -3,9 +3,9 @@
 use Rattle.std.proofs.Common.{◌≡◌, ℕ, ◌+◌, ◌≤◌, refl, arith}
 use Rattle.machine.specs.Numbers.{number_of}
 use Rattle.machine.specs.Inner.{state_of}
-use Rattle.machine.specs.Inner.Sign.{on}
-use Rattle.machine.proofs.Turns.{GoesOn, go_on, go_stop, carried_on, slept, refused_at, at_the_end}
-use Rattle.machine.proofs.running.go.Goals.{in-Next, in-Skip}
+use Rattle.machine.specs.Inner.Sign.{on, stop}
+use Rattle.machine.proofs.Turns.{GoesOn, Stops, go_on, go_stop, carried_on, slept, refused_at, at_the_end}
+use Rattle.machine.proofs.running.go.Goals.{in-Next, in-Skip, In-Sleep}
 use Rattle.machine.proofs.running.go.Goals as goal
 
 pub returns-in-Err : goal.returns-in-Err
@@ -23,20 +23,23 @@ overflow_add-cycles c =
     let cost : c.in-Ok.r.cycles ≤ 2 = went.cost in
     omega arith
 
+-- SLEEP ends the run.
+asleep : (c : In-Sleep) → let l = c.loop-done in
+    Stops c.args.words.now (state_of l.core l.stack) l.file (record { state = state_of c.in-Ok.r.core c.turn.new.stack; file = c.turn.new.file; cycles = c.in-Ok.r.cycles; sign = stop 1 }) 1
+asleep c =
+    let l = c.loop-done in
+    go_stop c.args.words.now (state_of l.core l.stack) l.file l.invariant.within l.invariant.bytes (rw (c.in-Ok.is, c.in-Sleep.is) at c.turn.ensures) 1 refl
+
 pub overflow_add-result-in-Sleep : goal.overflow_add-result-in-Sleep
 overflow_add-result-in-Sleep c =
-    let l = c.loop-done in
-    let broke = go_stop c.args.words.now (state_of l.core l.stack) l.file l.invariant.within l.invariant.bytes (rw (c.in-Ok.is, c.in-Sleep.is) at c.turn.ensures) 1 refl in
-    let cost : c.in-Ok.r.cycles ≤ 2 = broke.cost in
+    let cost : c.in-Ok.r.cycles ≤ 2 = (asleep (goal.at.overflow_add-result-in-Sleep c).In-Sleep).cost in
     omega arith
 
 pub returns-in-Sleep : goal.returns-in-Sleep
 returns-in-Sleep c =
     let l = c.loop-done in
-    let words = c.args.words.now in
-    let s = state_of l.core l.stack in
-    let broke = go_stop words s l.file l.invariant.within l.invariant.bytes (rw (c.in-Ok.is, c.in-Sleep.is) at c.turn.ensures) 1 refl in
-    (slept words c.args.n _ s l.file l.done l.cycles c.loop-done-test.true l.invariant.so_far _ broke, broke.within)
+    let broke = asleep (goal.at.returns-in-Sleep c).In-Sleep in
+    (slept c.args.words.now c.args.n _ (state_of l.core l.stack) l.file l.done l.cycles c.loop-done-test.true l.invariant.so_far _ broke, broke.within)
 
 pub loop-done-preserved : goal.loop-done-preserved
 loop-done-preserved c =
