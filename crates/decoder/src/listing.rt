@@ -6,7 +6,7 @@ ghost use Rattle.decoder.specs.Inner.{Wrote, Words, form_of, lines_in};
 
 use crate::decoding::decode;
 use crate::refusal::Refusal;
-use crate::text::{push_hex, text_of};
+use crate::text::{push_hex, push_text};
 use arrayvec::ArrayString;
 
 // The most words that are listed, each in a line of at most LINE_ROOM bytes.
@@ -98,7 +98,7 @@ fn line_of(address: usize, word: u16) -> ArrayString<LINE_ROOM>
     push_hex(&mut line, 4, usize::from(word));
     line.push_str(" ");
     match decode(word) {
-        Ok(i) => line.push_str(&text_of(i)),
+        Ok(i) => push_text(&mut line, i),
         Err(_) => line.push_str("????"),
     }
     line.push_str("\n");

@@ -24,29 +24,30 @@ pub fn disassemble(word: u16, text: &mut [u8]) -> Result<usize, Refusal>
     if text.len() < TEXT_ROOM {
         return Err(Refusal::ShortText);
     }
-    let shown = text_of(i);
+    let mut shown = ArrayString::<TEXT_ROOM>::new();
+    push_text(&mut shown, i);
     text[..shown.len()].copy_from_slice(shown.as_bytes());
     Ok(shown.len())
 }
 
-// The instruction's text. It is no Display: what a Formatter has written is known only where it answers Ok, and
-// `disassemble` always has its text.
+// The instruction's text, behind what is there. It is no Display: what a Formatter has written is known only where it
+// answers Ok, and `disassemble` always has its text. It is not inlined, so that there is room in its callers for `decode`.
 #[tactic(auto, using(crate::proofs::TextLength::mnemonic_length, crate::proofs::TextLength::text_length), unfolding(crate::specs::Text::text_of))]
-pub(crate) fn text_of(i: Instruction) -> ArrayString<TEXT_ROOM>
-    ensures bytes { result.bytes ≡ text_of i }
-    ensures short { array_string_len result ≤ 13 }
+#[inline(never)]
+pub(crate) fn push_text<const N: usize>(text: &mut ArrayString<N>, i: Instruction)
+    requires { array_string_len text.old + 13 ≤ N }
+    ensures bytes { text.new.bytes ≡ text.old.bytes ++ text_of i }
+    ensures short { array_string_len text.new ≤ array_string_len text.old + 13 }
 {
     let row = printed(i);
-    let mut text = ArrayString::new();
     text.push_str(row.mnemonic);
-    push_operands(&mut text, row.operands);
-    text
+    push_operands(text, row.operands);
 }
 
 // What follows the mnemonic, if anything.
 #[tactic(auto, unfolding(crate::specs::Text::operand_text))]
-fn push_operands(text: &mut ArrayString<TEXT_ROOM>, operands: Operands)
-    requires { array_string_len text.old + 7 ≤ TEXT_ROOM }
+fn push_operands<const N: usize>(text: &mut ArrayString<N>, operands: Operands)
+    requires { array_string_len text.old + 7 ≤ N }
     ensures { text.new.bytes ≡ text.old.bytes ++ operand_text operands }
 {
     match operands {
@@ -66,8 +67,8 @@ fn push_operands(text: &mut ArrayString<TEXT_ROOM>, operands: Operands)
 }
 
 // An operand's digits, and what stands before them.
-fn push_operand(text: &mut ArrayString<TEXT_ROOM>, before: &str, digits: usize, v: usize)
-    requires { array_string_len text.old + length before.now + digits ≤ TEXT_ROOM }
+fn push_operand<const N: usize>(text: &mut ArrayString<N>, before: &str, digits: usize, v: usize)
+    requires { (array_string_len text.old + length before.now + digits ≤ N) × (digits ≤ 16) }
     ensures bytes { text.new.bytes ≡ text.old.bytes ++ before.now ++ hex digits v }
     ensures len { array_string_len text.new ≡ array_string_len text.old + length before.now + digits }
 {
@@ -75,17 +76,16 @@ fn push_operand(text: &mut ArrayString<TEXT_ROOM>, before: &str, digits: usize, 
     push_hex(text, digits, v);
 }
 
-// The lower hexadecimal digits of v, as many as are asked for; `{:X}` gives all that v has, and might answer an Err.
+// The lower hexadecimal digits of v, as many as are asked for, of its 16; `{:X}` gives as many as v needs, and might
+// answer an Err. By a loop, which the compiler unrolls where the number of digits is known; calls of itself it does not.
 pub(crate) fn push_hex<const N: usize>(text: &mut ArrayString<N>, digits: usize, v: usize)
-    requires { array_string_len text.old + digits ≤ N }
+    requires { (array_string_len text.old + digits ≤ N) × (digits ≤ 16) }
     ensures bytes { text.new.bytes ≡ text.old.bytes ++ hex digits v }
     ensures len { array_string_len text.new ≡ array_string_len text.old + digits }
 {
-    if digits == 0 {
-        return;
+    for i in 0..digits {
+        text.push(hex_digit(v >> (4 * (digits - 1 - i))));
     }
-    push_hex(text, digits - 1, v / 16);
-    text.push(hex_digit(v));
 }
 
 // The lowest hexadecimal digit of v, in capitals.
