@@ -35,17 +35,27 @@ pub bit_below : (d : Dest) → bit_of d < 2
 bit_below W = omega arith
 bit_below File = omega arith
 
+-- They take at most the eleven low bits of a word.
+pub placed_small : (o : Operands) → Fit o → placed o < 2048
+placed_small None h = omega arith
+placed_small (F f) h = omega arith
+placed_small (FD f d) h = omega (arith, bit_below d)
+placed_small (FB f b) h = omega arith
+placed_small (K8 k) h = omega arith
+placed_small (K11 k) h = omega arith
+
 -- What code has placed: the operands fit, and these are their bits.
 pub record Placing (o : Operands) (b : ℕ) : Type 0 where
   pub fit : fit_of o ≡ true
   pub are : b ≡ placed o
+  pub small : b < 2048
 
 pub placing_gives : (o : Operands) (b : ℕ) → gives b ≡ fields_of o → Placing o b
 unfolding fields_of
 placing_gives o b e = go (fit_of o) refl e
   where
     go : (t : Bool) → fit_of o ≡ t → gives b ≡ cond t (gives (placed o)) (refuses 10) → Placing o b
-    go true f e = let are : b ≡ placed o = cc in record { fit = f; are = are }
+    go true f e = let are : b ≡ placed o = cc in record { fit = f; are = are; small = omega (arith, placed_small o (fit_true o f)) }
     go false f e = absurd (no_value e)
 
 pub placing_refuses : (o : Operands) (n : ℕ) → refuses n ≡ fields_of o → (fit_of o ≡ false) × (n ≡ 10)

@@ -1,7 +1,7 @@
 -- The lines of a listing and their lengths, and what an input of the right form has. Assumes nothing.
 use Rattle.std.specs.Prelude.{codes}
 use mathlib.Core.Path.{◌≡◌, refl, ap, ◌∙◌}
-use mathlib.Core.Bool.{Bool, true, false, not, ◌&&◌}
+use mathlib.Core.Bool.{Bool, true, false, cond, not, ◌&&◌}
 use mathlib.Core.List.{List, [], ◌++◌, append_assoc}
 use Prim.Native.Nat.{ℕ, zero, suc, ◌+◌, ◌*◌, ◌/◌, ◌%◌, ◌≤◌, ◌<◌}
 use native.Mathlib.Nat.{not-suc-le-zero}
@@ -15,7 +15,7 @@ use Rattle.decoder.specs.declared.instruction.Instruction.{Instruction}
 use Rattle.decoder.specs.Table.{Answer, decode_of}
 use Rattle.decoder.specs.Table.Answer.{gives, refuses}
 use Rattle.decoder.specs.Text.{hex}
-use Rattle.decoder.specs.Listing.{shown, number_at, line_of, lines_of, word_at, length_of, kind_of, accepted_of}
+use Rattle.decoder.specs.Listing.{shown, number_at, line_of, lines_of, word_at, length_of, kind_of, accepted_of, listing_of}
 use Rattle.decoder.specs.Inner.{Words, form_of, word_in, lines_in}
 use Rattle.decoder.proofs.Below.{agree, and_left, and_right}
 use Rattle.decoder.proofs.TextLength.{text_length}
@@ -35,7 +35,7 @@ unfolding line_of
 in_parts address word =
     ap (λ (t : List ℕ). t ++ shown (decode_of word) ++ codes "\n") (append_assoc (hex 4 address ++ codes " ") (hex 4 word) (codes " "))
 
-line_length : (address word : ℕ) → length (line_of address word) ≤ 25
+pub line_length : (address word : ℕ) → length (line_of address word) ≤ 25
 line_length address word =
     let one = number_length address in
     let two = number_length word in
@@ -45,12 +45,12 @@ line_length address word =
     let to_end = length-append ((hex 4 address ++ codes " ") ++ (hex 4 word ++ codes " ") ++ shown (decode_of word)) (codes "\n") in
     rw (in_parts address word) (omega arith)
 
-pub lines_length : (n : ℕ) (words : List (List ℕ)) → length (lines_in n words) ≤ 25 * n
+pub lines_in_length : (n : ℕ) (words : List (List ℕ)) → length (lines_in n words) ≤ 25 * n
 unfolding lines_in
-lines_length zero words = lit≤ tt
-lines_length (suc n) words =
+lines_in_length zero words = lit≤ tt
+lines_in_length (suc n) words =
     let line = line_of n (word_in (get_or words n [])) in
-    omega (arith, length-append (lines_in n words) line, lines_length n words, line_length n (word_in (get_or words n [])))
+    omega (arith, length-append (lines_in n words) line, lines_in_length n words, line_length n (word_in (get_or words n [])))
 
 -- An input of four bytes or more is accepted where its header is of the right form, and a shorter one is not.
 pub short_input : (input : List ℕ) → length input < 4 → accepted_of input ≡ false
@@ -110,6 +110,37 @@ lines_same input k (suc n) h =
     let word : word_in (get_or (first_chunks 2 k (drop 4 input)) n []) ≡ word_at input n =
     pair_at (drop 4 input) k n h ∙ rw (get_or-drop 4 input (2 * n) 0, get_or-drop 4 input (2 * n + 1) 0, second) refl in
     rw (lines_same input k n (omega arith), word) refl
+
+pub lines_length : (n : ℕ) (input : List ℕ) → length (lines_of n input) ≤ 25 * n
+lines_length n input = rw (← lines_same input n n (omega arith)) (lines_in_length n (first_chunks 2 n (drop 4 input)))
+
+-- What an accepted input has.
+pub record Good (input : List ℕ) : Type 0 where
+  pub most : length_of input ≤ 16384
+  pub exact : length input ≡ 4 + length_of input
+
+pub good : (input : List ℕ) → accepted_of input ≡ true → Good input
+unfolding accepted_of
+good input e =
+    let long = leb 4 (length input) in
+    let even = eqb (length_of input % 2) 0 in
+    let some = not (eqb (length_of input) 0) in
+    let short = leb (length_of input) 16384 in
+    let kind = eqb (kind_of input) 1 in
+    let whole = eqb (length input) (4 + length_of input) in
+    record {
+      most = leb-true (length_of input) 16384 (and_right (long && even && some) short (and_left (long && even && some && short) kind (and_left (long && even && some && short && kind) whole e)));
+      exact = eqb-true (length input) (4 + length_of input) (and_right (long && even && some && short && kind) whole e);
+    }
+
+-- Every listing has room in LISTING_ROOM bytes.
+pub listing_length : (input : List ℕ) → length (listing_of input) ≤ 204800
+unfolding listing_of
+listing_length input = go (accepted_of input) refl
+  where
+    go : (t : Bool) → accepted_of input ≡ t → length (cond t (lines_of (length_of input / 2) input) (codes "REFUSED\n")) ≤ 204800
+    go true e = omega (arith, (good input e).most, lines_length (length_of input / 2) input)
+    go false e = lit≤ tt
 
 pub words_read : (input header rest : List ℕ) (words : List (List ℕ)) (size kind : ℕ) → Apart input header rest size kind
     → form_of size kind (length rest) ≡ true → words ≡ first_chunks 2 (length rest / 2) rest → length words ≡ length rest / 2 → Words input words

@@ -1,13 +1,14 @@
 -- Digits and their lengths, and texts written one behind the other into a buffer. Assumes nothing.
 use mathlib.Core.Path.{◌≡◌, refl, sym, ◌∙◌}
+use mathlib.Core.Bool.{cond}
 use mathlib.Core.List.{List, [], ◌∷◌, ◌++◌, append_assoc}
 use Prim.Native.Nat.{ℕ, zero, suc, ◌+◌, ◌-◌, ◌/◌, ◌%◌, ◌<◌}
 use native.Mathlib.Nat.{zero-add}
 use native.Mathlib.Omega.{arith}
-use lib.Dec.{ltb}
+use lib.Dec.{eqb, ltb}
 use lib.ListN.{length, length-append, take, drop}
 use lib.Utf8.{encode}
-use borrow.Author.Tests.{ltb-true}
+use borrow.Author.Tests.{eqb-true, ltb-true}
 use Rattle.std.proofs.lemmas.List.{take_at, drop_at, drop-drop}
 use Rattle.std.proofs.lemmas.Str.{encode_ascii}
 use Rattle.decoder.specs.Table.Answer.{gives}
@@ -19,6 +20,11 @@ pub hex_length : (n v : ℕ) → length (hex n v) ≡ n
 unfolding hex
 hex_length zero v = refl
 hex_length (suc n) v = length-append (hex n (v / 16)) (digit _ ∷ []) ∙ rw (hex_length n (v / 16)) (omega arith)
+
+-- 0 to 9 and then A to F.
+pub digit_is : (d : ℕ) → d < 16 → digit d ≡ cond (ltb d 10) (0x30 + d) (0x41 + (d - 10))
+unfolding digit
+digit_is d h = eqb-true _ _ (below (λ v. eqb (digit v) (cond (ltb v 10) (0x30 + v) (0x41 + (v - 10)))) 16 refl d h)
 
 -- A digit is one byte of text.
 digit_below : (d : ℕ) → d < 16 → digit d < 128

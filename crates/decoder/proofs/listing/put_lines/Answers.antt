@@ -1,7 +1,7 @@
 -- `put_lines` writes one line more. Assumes nothing.
 use Rattle.std.proofs.Common.{◌≡◌, ◌∙◌, [], get_or, add-one, arith}
 use Rattle.decoder.specs.Inner.{word_in, lines_in}
-use Rattle.decoder.proofs.Lines.{lines_length}
+use Rattle.decoder.proofs.Lines.{lines_in_length}
 use Rattle.decoder.proofs.Writing.{wrote_none, wrote_more}
 use Rattle.decoder.proofs.listing.put_lines.Goals as goal
 
@@ -11,7 +11,7 @@ loop-address-init c = wrote_none _
 
 pub put-end-requires : goal.put-end-requires
 put-end-requires c =
-    omega (arith, c.loop-address.invariant.place, lines_length c.loop-address.address c.args.words.now, c.deref.ensures.1, c.loop-address.auto.out)
+    omega (arith, c.loop-address.invariant.place, lines_in_length c.loop-address.address c.args.words.now, c.deref.ensures.1, c.loop-address.auto.out)
 
 pub loop-address-preserved : goal.loop-address-preserved
 unfolding lines_in
