@@ -1,9 +1,9 @@
--- The promises of a sum and of a turned byte determine them: two that keep one are equal. The other promises are
--- equations as they stand. Assumes nothing.
-use Rattle.std.proofs.Common.{◌≡◌, Bool, true, false, ℕ, refl, sym, ap, ◌∙◌, arith}
+-- The promises of a sum, of a turned byte and of a bit determine them: two that keep one are equal. The other promises
+-- are equations as they stand. Assumes nothing.
+use Rattle.std.proofs.Common.{◌≡◌, Bool, true, false, ℕ, ◌%◌, refl, sym, ap, ◌∙◌, arith}
 use Rattle.alu.specs.declared.operations.Sum.{Sum}
 use Rattle.alu.specs.declared.operations.Turned.{Turned}
-use Rattle.alu.specs.Alu.{Result, to_bit}
+use Rattle.alu.specs.Alu.{Result, to_bit, bit_of, is_zero}
 use Rattle.alu.specs.Answers.{result_of, turn_of, Adds, Subtracts, TurnsLeft, TurnsRight}
 
 -- A bit says which truth value it stands for.
@@ -12,6 +12,12 @@ same_bit true true e = refl
 same_bit true false e = absurd (omega arith)
 same_bit false true e = absurd (omega arith)
 same_bit false false e = refl
+
+pub bit_once : (x b : ℕ) (q r : Bool) → to_bit q ≡ bit_of (b % 8) x → to_bit r ≡ bit_of (b % 8) x → q ≡ r
+bit_once x b q r p t = same_bit q r (p ∙ sym t)
+
+pub is_zero_once : (v : ℕ) (q r : Bool) → to_bit q ≡ is_zero v → to_bit r ≡ is_zero v → q ≡ r
+is_zero_once v q r p t = same_bit q r (p ∙ sym t)
 
 same_sum : (q r : Sum) → result_of q ≡ result_of r → q ≡ r
 same_sum q r e =

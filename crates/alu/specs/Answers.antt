@@ -1,5 +1,6 @@
--- The promises of the arithmetic's calls. A sum, a difference or a turned byte is read as the definitions' result; the
--- other calls give a number, and promise an equation with a definition as it stands. Assumes nothing.
+-- The promises of the arithmetic's calls. A sum, a difference or a turned byte is read as the definitions' result, and
+-- what `bit` and `is_zero` give by `to_bit`; the other calls give a number, and promise an equation with a definition as
+-- it stands. Assumes nothing.
 use Rattle.std.specs.Prelude.{◌≡◌, ℕ, ◌%◌}
 use Rattle.alu.specs.declared.operations.Sum.{Sum}
 use Rattle.alu.specs.declared.operations.Turned.{Turned}
