@@ -32,7 +32,7 @@ pub fn disassemble(word: u16, text: &mut [u8]) -> Result<usize, Refusal>
 
 // The instruction's text, behind what is there. It is no Display: what a Formatter has written is known only where it
 // answers Ok, and `disassemble` always has its text. It is not inlined, so that there is room in its callers for `decode`.
-#[tactic(auto, using(crate::proofs::TextLength::mnemonic_length, crate::proofs::TextLength::text_length), unfolding(crate::specs::Text::text_of))]
+#[tactic(auto, using(crate::proofs::TextLength::mnemonic_length), unfolding(crate::specs::Text::text_of))]
 #[inline(never)]
 pub(crate) fn push_text<const N: usize>(text: &mut ArrayString<N>, i: Instruction)
     requires { array_string_len text.old + 13 ≤ N }
@@ -48,7 +48,8 @@ pub(crate) fn push_text<const N: usize>(text: &mut ArrayString<N>, i: Instructio
 #[tactic(auto, unfolding(crate::specs::Text::operand_text))]
 fn push_operands<const N: usize>(text: &mut ArrayString<N>, operands: Operands)
     requires { array_string_len text.old + 7 ≤ N }
-    ensures { text.new.bytes ≡ text.old.bytes ++ operand_text operands }
+    ensures bytes { text.new.bytes ≡ text.old.bytes ++ operand_text operands }
+    ensures short { array_string_len text.new ≤ array_string_len text.old + 7 }
 {
     match operands {
         Operands::None => {}

@@ -1,5 +1,5 @@
--- `push_hex` pushes the digits from the highest on. The invariant: those of this turn's and the lower places' are still
--- to come. Assumes nothing.
+-- `push_hex` pushes the digits from the highest on. The invariant: the digits above this turn's are pushed, and no more.
+-- Assumes nothing.
 use Rattle.std.proofs.Common.{◌≡◌, ◌+◌, ◌-◌, ◌*◌, ◌/◌, ◌^◌, ◌++◌}
 use Rattle.arrayvec.specs.ArrayString.{array_string_len}
 use Rattle.decoder.specs.Text.{hex}
